@@ -11,7 +11,7 @@ use Rattle.cv_meaning.specs.Chances.{AtMost, Chance, Same, distance, zero_chance
 use Rattle.cv_meaning.specs.Advantage.{IsAsked, chance_of}
 use Rattle.cv_meaning.specs.Queries.{queries_in}
 use Rattle.cv_meaning_chances.specs.Fractions.{HasTapes, plus}
-use Rattle.cv_meaning_chances.proofs.FractionLaws.{at_most_trans, distance_kept, plus_kept, triangle}
+use Rattle.cv_meaning_chances.proofs.FractionLaws.{at_most_trans, distance_kept}
 use Rattle.cv_meaning_contexts.specs.ContextAdvantage.{context_chance}
 use Rattle.cv_meaning_contexts.specs.Groups.{Left, Right}
 use Rattle.cv_meaning_chances.specs.values.Values.{HasValuesIn}
@@ -19,10 +19,13 @@ use Rattle.cv_meaning_chances.proofs.values.Tapes.{tapes}
 use Rattle.cv_bound.specs.declared.cost.Cost.{Cost as SumCost}
 use Rattle.cv_bound.specs.declared.terms.Experiment.TheVariants as term
 use Rattle.cv_bound.specs.declared.terms.Term.{Term}
-use Rattle.cv_bound.specs.declared.terms.Term.TheVariants as terms
-use Rattle.cv_bound.specs.Sums.{added, with_terms}
+use Rattle.cv_bound.specs.Sums.{added}
 use Rattle.cv_bound_values.specs.Values.{Advantages, cost_value, sum_value}
-use Rattle.cv_bound_values.proofs.Adding.{sum_value_append}
+use Rattle.cv_bound_values.proofs.Adding.{tapes_are_kept}
+use Rattle.cv_derive_laws.specs.stores.Costs.{bound_of}
+use Rattle.cv_derive_laws.proofs.stores.Costs.{apart}
+use Rattle.cv_sequences.proofs.costs.Costs.{cost_worth, together}
+use Rattle.cv_lists.proofs.Each.{AllByRecursion_left, AllByRecursion_right}
 use Rattle.cv_typing_runs.proofs.Games.{known}
 use Rattle.cv_scene.specs.Contexts.{AreAnswers}
 use Rattle.cv_scene.specs.Reductions.{context_of_game}
@@ -34,25 +37,24 @@ use Rattle.cv_context_right_side.proofs.queries.Steps.{next_asks_none}
 use Rattle.cv_context_right_side.specs.Right.{IsStepOfFile}
 use Rattle.cv_steps.specs.Asked.{AskForNoIndex}
 use Rattle.cv_steps.specs.Sequences.{scene}
-use Rattle.cv_steps.specs.Steps.{Zero}
+use Rattle.cv_steps.specs.Steps.{Collisions, Cost, Zero}
 use Rattle.cv_steps_crypto.specs.Conditions.{equivalence_of, failure_of}
 use Rattle.cv_steps_crypto.specs.Steps.{first_answer, reduction_of}
 use Rattle.cv_steps_crypto.proofs.Accepted.{accepted, next_drawn}
-use Rattle.cv_sequences.specs.Chains.{ByEquivalence, ByStep, HasPrice, HasSides, HaveTapedPrices, IsChain, IsClose, IsFileOf, IsLink, Link, Prices, cost_behind, costs_behind, game_after, names_below, next_behind, push, start, summed}
+use Rattle.cv_sequences.specs.Chains.{ByEquivalence, ByStep, HasPrice, HasSides, HasTapedPrice, HaveTapedPrices, IsChain, IsClose, IsFileOf, IsLink, IsOfCost, Link, Prices, cost_behind, costs_behind, game_after, names_below, next_behind, push, start, summed}
 use Rattle.cv_sequences.proofs.Accepted.{step_ready}
 use Rattle.cv_sequences.proofs.Kept.{next_asks_no_index, next_valued}
 use Rattle.cv_sequences.proofs.Sides.{left_side, right_side}
 use Rattle.cv_sequences.proofs.Steps.{next_values}
-use Rattle.cv_sequences.proofs.Sums.{apart, back}
+use Rattle.cv_sequences.proofs.Sums.{back, further}
+use Rattle.cv_sequences.proofs.secrets.Alike.{bounded_alike}
+use Rattle.cv_sequences.proofs.secrets.Sums.{added_alike}
 use Rattle.cv_sequences.proofs.Tested.{tested, unrefused}
 
 -- chances
 
 more : (d p : Chance) → AtMost d p → AtMost d (plus p zero_chance)
 more d p h = omega (arith, h)
-
-less : (d p : Chance) → AtMost d (plus p zero_chance) → AtMost d p
-less d p h = omega (arith, h)
 
 as_much : (p q v : Chance) → 0 < q.all → Same p q → AtMost q v → AtMost p v
 as_much p q v n e h = at_most_trans p q v n (omega (arith, e)) h
@@ -64,9 +66,15 @@ at_most p q e = omega (arith, e)
 pub same_end : (p q r v : Chance) → 0 < p.all → 0 < q.all → AtMost (distance p q) v → Same q r → AtMost (distance p r) v
 same_end p q r v m n h e = as_much (distance p r) (distance p q) v (mul-pos m n) (distance_kept p r p q refl (sym e)) h
 
--- and from one further on it is apart by both distances
-further : (p q r v c : Chance) → 0 < p.all → 0 < q.all → 0 < r.all → AtMost (distance p q) v → AtMost (distance q r) c → AtMost (distance p r) (plus v c)
-further p q r v c l m n h k = at_most_trans (distance p r) (plus (distance p q) (distance q r)) (plus v c) (mul-pos (mul-pos l m) (mul-pos m n)) (triangle p q r) (plus_kept (distance p q) v (distance q r) c h k)
+-- what a cost says
+
+of_cost : (i : Interpretation) (c : Cost) (p q : Chance) → HasTapes (bound_of i c) → AtMost (distance p q) (bound_of i c) → IsOfCost i c p q
+of_cost i Zero p q t h = together p q h
+of_cost i (Collisions cs) p q t h = (t, h)
+
+at_cost : (i : Interpretation) (c : Cost) (p q : Chance) → IsOfCost i c p q → AtMost (distance p q) (bound_of i c)
+at_cost i Zero p q h = apart p q zero_chance h
+at_cost i (Collisions cs) p q h = h.1
 
 -- sums
 
@@ -78,9 +86,6 @@ summed_put sum (d ∷ cs) c = summed_put (added sum d false) cs c
 -- the sum of a chain with a link more
 summed_more : (before : List Link) (l : Link) → summed [] (costs_behind (before ++ l ∷ [])) ≡ added (summed [] (costs_behind before)) (cost_behind l) false
 summed_more before l = ap (summed []) (map-append cost_behind before (l ∷ [])) ∙ summed_put [] (costs_behind before) (cost_behind l)
-
-abbrev advantage : (n e : ℕ) → Term
-advantage n e = terms.Advantage n (record { 0 = e }) term.Events
 
 -- a chain ends with the game that its links lead to
 ends : (first : Tree) (links : List Link) (l : Link) → game_after first (links ++ l ∷ []) ≡ next_behind l
@@ -94,17 +99,20 @@ chain_ends ds known first links last start = refl
 chain_ends ds known first links last (push before game l c e) = ends first before l
 
 -- the sum has tapes where the advantages have
-with_advantage : (i : Interpretation) (advantages : Advantages) (sum : List Term) (n e : ℕ) → HasTapes (sum_value i advantages sum) → HasTapes (advantages n term.Events) → HasTapes (sum_value i advantages (sum ++ advantage n e ∷ []))
-with_advantage i advantages sum n e h k = subst HasTapes (sym (sum_value_append i advantages sum (advantage n e ∷ []))) (mul-pos h (mul-pos k (omega arith)))
 
-taped_behind : (i : Interpretation) (advantages : Advantages) (sum : List Term) (links : List Link) → HasTapes (sum_value i advantages sum) → HaveTapedPrices advantages links → HasTapes (sum_value i advantages (summed sum (costs_behind links)))
-unfolding summed with_terms
-taped_behind i advantages sum [] h k = h
-taped_behind i advantages sum (ByStep step Zero next ∷ links) h k = taped_behind i advantages sum links h k.1
-taped_behind i advantages sum (ByEquivalence n e x next ∷ links) h k = taped_behind i advantages (sum ++ advantage n e ∷ []) links (with_advantage i advantages sum n e h k.0) k.1
+cost_taped : (s : Scene) (i : Interpretation) → Satisfies s.declarations i → (advantages : Advantages) (l : Link) → IsLink s l → HasTapedPrice advantages l → HasTapes (cost_value i advantages (cost_behind l) false)
+cost_taped s i sat advantages (ByStep step cost next) e k = subst HasTapes (sym (cost_worth i advantages cost)) (e.0.taped s next cost e.1 i sat)
+cost_taped s i sat advantages (ByEquivalence n e x next) o k = mul-pos k (omega arith)
 
-pub taped : (i : Interpretation) (advantages : Advantages) (links : List Link) → HaveTapedPrices advantages links → HasTapes (sum_value i advantages (summed [] (costs_behind links)))
-taped i advantages links k = taped_behind i advantages [] links (omega arith) k
+pub taped : (ds : List Declaration) (known : ℕ → Bool) (first : Tree) (links : List Link) (last : Tree) → IsChain ds known first links last → (i : Interpretation) → Satisfies ds i → (advantages : Advantages) → HaveTapedPrices advantages links → HasTapes (sum_value i advantages (summed [] (costs_behind links)))
+unfolding summed
+taped ds known first links last start i sat advantages k = omega arith
+taped ds known first links last (push before game l c e) i sat advantages k =
+    let front = AllByRecursion_left (HasTapedPrice advantages) before (l ∷ []) k in
+    let end = (AllByRecursion_right (HasTapedPrice advantages) before (l ∷ []) k).0 in
+    subst (λ ts. HasTapes (sum_value i advantages ts)) (sym (summed_more before l))
+    (tapes_are_kept i advantages (summed [] (costs_behind before)) (cost_behind l) false
+    (mul-pos (taped ds known first before game c i sat advantages front) (cost_taped (scene ds known game) i sat advantages l e end)))
 
 module _ (ds : List Declaration) (own : ℕ) (first : Tree) (w : IsFileOf ds own first) where
   abbrev at : Tree → Scene
@@ -189,7 +197,8 @@ module _ (ds : List Declaration) (own : ℕ) (first : Tree) (w : IsFileOf ds own
       -- one link
 
       link_sides : (game : Tree) (l : Link) → IsOfChain game → IsLink (at game) l → HasSides (at game) i x a l (chance_in game) (chance_in (next_behind l))
-      link_sides game (ByStep step cost next) g e = e.0.keeps (at game) next cost g.ready w.derivations w.bodies w.known_queries e.1 i sat x asked a
+      link_sides game (ByStep step cost next) g e =
+          of_cost i cost (chance_in game) (chance_in next) (e.0.taped (at game) next cost e.1 i sat) (e.0.keeps (at game) next cost g.ready w.derivations w.bodies w.known_queries e.1 i sat x asked a)
       link_sides game (ByEquivalence n e key next) g o = λ t is.
           let r = reduction_of (at game) t key in
           let step = step_of_file game e key t g is (accepted (at game) e key next o).failure in
@@ -200,7 +209,8 @@ module _ (ds : List Declaration) (own : ℕ) (first : Tree) (w : IsFileOf ds own
 
       link_within : (game : Tree) (l : Link) → IsLink (at game) l → HasSides (at game) i x a l (chance_in game) (chance_in (next_behind l)) → (advantages : Advantages) → HasPrice (at game) advantages i x a l
           → AtMost (distance (chance_in game) (chance_in (next_behind l))) (cost_value i advantages (cost_behind l) false)
-      link_within game (ByStep step Zero next) e h advantages p = apart (chance_in game) (chance_in next) h
+      link_within game (ByStep step cost next) e h advantages p =
+          subst (AtMost (distance (chance_in game) (chance_in next))) (sym (cost_worth i advantages cost)) (at_cost i cost (chance_in game) (chance_in next) h)
       link_within game (ByEquivalence n e key next) o h advantages p =
           let y = accepted (at game) e key next o in
           let c = context_of_game (reduction_of (at game) y.equivalence key) in
@@ -227,9 +237,7 @@ module _ (ds : List Declaration) (own : ℕ) (first : Tree) (w : IsFileOf ds own
 
         -- what a sum and a cost bound together, the sum with that cost more bounds
         with_cost : (l : Link) (sum : List Term) (p : Chance) → AtMost p (plus (sum_value i advantages sum) (cost_value i advantages (cost_behind l) false)) → AtMost p (sum_value i advantages (added sum (cost_behind l) false))
-        unfolding with_terms
-        with_cost (ByStep step Zero next) sum p h = less p (sum_value i advantages sum) h
-        with_cost (ByEquivalence n e key next) sum p h = subst (AtMost p) (sym (sum_value_append i advantages sum (advantage n e ∷ []))) h
+        with_cost l sum p h = bounded_alike p (sum_value i advantages (added sum (cost_behind l) false)) (plus (sum_value i advantages sum) (cost_value i advantages (cost_behind l) false)) (added_alike i advantages sum (cost_behind l) false) h
 
         -- the prices of a chain, less its last link
         fewer : (before : List Link) (l : Link) → Prices ds (names_below own) first (before ++ l ∷ []) advantages i x a → Prices ds (names_below own) first before advantages i x a
@@ -237,7 +245,7 @@ module _ (ds : List Declaration) (own : ℕ) (first : Tree) (w : IsFileOf ds own
 
         pub within : (links : List Link) (last : Tree) → IsChain ds (names_below own) first links last → Prices ds (names_below own) first links advantages i x a → IsWithin last (summed [] (costs_behind links))
         unfolding summed
-        within links last start p = apart (chance_in first) (chance_in first) refl
+        within links last start p = apart (chance_in first) (chance_in first) zero_chance refl
         within links last (push before game l c e) p =
             let k = link_close before game c l e in
             let sum = summed [] (costs_behind before) in

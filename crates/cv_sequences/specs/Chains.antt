@@ -17,6 +17,7 @@ use Rattle.cv_bound.specs.declared.terms.Experiment.TheVariants as term
 use Rattle.cv_bound.specs.declared.terms.Term.{Term}
 use Rattle.cv_bound.specs.Sums.{added}
 use Rattle.cv_bound_values.specs.Values.{Advantages, cost_value}
+use Rattle.cv_derive_laws.specs.stores.Costs.{bound_of}
 use Rattle.cv_group_rules.specs.Symbols.{symbols_of}
 use Rattle.cv_group_rules.specs.Faults.{IsAccepted}
 use Rattle.cv_typing_runs.specs.Games.{HasConstants}
@@ -33,7 +34,7 @@ use Rattle.cv_steps.specs.Costs.{cost_of}
 use Rattle.cv_steps.specs.Judgements.{judgement_of}
 use Rattle.cv_steps.specs.Judgements as rule
 use Rattle.cv_steps.specs.Sequences.{scene}
-use Rattle.cv_steps.specs.Steps.{Cost, Step}
+use Rattle.cv_steps.specs.Steps.{Collisions, Cost, Step, Zero}
 use Rattle.cv_steps_crypto.specs.Conditions.{equivalence_of}
 use Rattle.cv_steps_crypto.specs.Steps.{IsOutcome, first_answer, reduction_of}
 use Rattle.cv_steps_crypto.specs.Steps as crypto
@@ -90,10 +91,16 @@ abbrev pub Prices : List Declaration → (known : ℕ → Bool) → (first : Tre
 Prices ds known first links advantages i x a =
     (before : List Link) (l : Link) (behind : List Link) → links ≡ before ++ l ∷ behind → HasPrice (scene ds known (game_after first before)) advantages i x a l
 
--- What a link leaves of the chances of the games before and behind it. By a rule they are the same; by an equivalence they are those of
--- the context of the game before it, with the left and with the right side.
+-- What a cost says of the chances before and behind a step: nothing, that they are the same; collisions, that these have a value, and
+-- the chances differ by at most that.
+abbrev pub IsOfCost : Interpretation → Cost → (before behind : Chance) → Type 0
+IsOfCost i Zero p q = Same p q
+IsOfCost i (Collisions cs) p q = HasTapes (bound_of i (Collisions cs)) × AtMost (distance p q) (bound_of i (Collisions cs))
+
+-- What a link leaves of the chances of the games before and behind it. By a rule it is what its cost says; by an equivalence they are
+-- those of the context of the game before it, with the left and with the right side.
 abbrev pub HasSides : Scene → Interpretation → Experiment → Adversary → Link → (before behind : Chance) → Type 0
-HasSides s i x a (ByStep step cost next) p q = Same p q
+HasSides s i x a (ByStep step cost next) p q = IsOfCost i cost p q
 HasSides s i x a (ByEquivalence n e key next) p q =
     (t : Tree) → equivalence_of s e ≡ Some t
     → Same p (context_chance s.declarations i (context_of_game (reduction_of s t key)) Left x a) × Same q (context_chance s.declarations i (context_of_game (reduction_of s t key)) Right x a)

@@ -1,6 +1,7 @@
 // The laws of accepted steps and of sequences of games.
 #![tactic(auto)]
 
+pub mod costs;
 pub mod secrets;
 pub mod soundness;
 
@@ -26,23 +27,24 @@ ghost use Rattle.cv_derive_laws.specs.stores.Soundness.{DerivationsHold, Derived
 ghost use Rattle.cv_derive_laws.specs.stores.Steps.{AreSound, IsSound};
 ghost use Rattle.cv_steps.specs.Steps.{Cost, Step};
 ghost use Rattle.cv_steps.specs.Judgements.{Accepted, judgement_of};
-ghost use Rattle.cv_steps.specs.Chances.{KeepsChances};
+ghost use Rattle.cv_derive_laws.specs.stores.Costs.{CostsAtMost};
 ghost use Rattle.cv_steps.specs.Sequences.{IsSequence, Passage, scene};
 ghost use Rattle.cv_steps.specs.Asked.{AskForNoIndex};
 ghost use Rattle.cv_sequences.specs.Chains.{HaveTapedPrices, IsChain, IsClose, IsFileOf, IsLink, Link, Prices, costs_behind, names_below, summed};
 ghost use Rattle.cv_sequences.specs.Sequences.{added_up, costs_of};
 ghost use Rattle.cv_meaning_chances.specs.values.Values.{HasValuesIn};
 
-/// A sound step that is accepted in a game leads to one with all that the laws of runs ask for, and keeps chances, where
-/// derivations are sound.
-pub fn accepted_steps_keep_chances()
+/// A sound step that is accepted in a game leads to one with all that the laws of runs ask for, and chances stay as they were up
+/// to its cost, where derivations are sound.
+pub fn accepted_steps_are_within_their_costs()
     ensures ready { (s : Scene) (step : Step) (next : Tree) (cost : Cost) → IsSound step →
         HasConstants s.declarations → IsReady s.declarations s.game →
         judgement_of s step ≡ Accepted next cost → IsReady s.declarations next }
     ensures chances { (s : Scene) (step : Step) (next : Tree) (cost : Cost) → IsSound step →
         IsReady s.declarations s.game → DerivationsHold s.declarations →
         DerivedBodiesAreUnreached s.declarations → KnowsQueries s →
-        judgement_of s step ≡ Accepted next cost → KeepsChances s.declarations s.game next }
+        judgement_of s step ≡ Accepted next cost →
+        CostsAtMost s.declarations s.game next cost }
 {}
 
 /// Each game of a sequence of sound steps has all that the laws of runs ask for, where the first has it. Where derivations
@@ -66,7 +68,7 @@ pub fn sequences_are_within_their_sums()
 {}
 
 /// So an experiment for which a query asks, and that has no chance in the last game, has a chance in the first that is
-/// at most the sum, whose value has tapes.
+/// at most the sum, whose value has tapes wherever types have values.
 pub fn chances_are_carried_back()
     ensures chance { (ds : List Declaration) (known : ℕ → Bool) (first : Tree)
         (passages : List Passage) (last : Tree) → IsReady ds first → HasConstants ds →
@@ -79,7 +81,10 @@ pub fn chances_are_carried_back()
         AtMost (chance_of (setting_of ds i) x a last) zero_chance →
         AtMost (chance_of (setting_of ds i) x a first)
         (sum_value i advantages (added_up [] (costs_of passages) false)) }
-    ensures tapes { (i : Interpretation) (advantages : Advantages) (passages : List Passage) →
+    ensures tapes { (ds : List Declaration) (known : ℕ → Bool) (first : Tree)
+        (passages : List Passage) (last : Tree) → AreSound passages →
+        IsSequence ds known first passages last →
+        (i : Interpretation) → Satisfies ds i → (advantages : Advantages) →
         HasTapes (sum_value i advantages (added_up [] (costs_of passages) false)) }
 {}
 
@@ -106,8 +111,8 @@ pub fn chains_lead_to_ready_games()
 {}
 
 /// Behind a chain each link is within its own cost: no adversary tells its game from the one before it, in an experiment
-/// for which a query asks, by more than the value of its cost. By a rule both have one chance; by an equivalence they
-/// have those of the context of the game before it, with the left and with the right side.
+/// for which a query asks, by more than the value of its cost. By a rule that costs nothing both have one chance; by an
+/// equivalence they have those of the context of the game before it, with the left and with the right side.
 pub fn links_are_within_their_costs()
     ensures { (ds : List Declaration) (own : ℕ) (first : Tree) (links : List Link)
         (game : Tree) (l : Link) → IsFileOf ds own first →
@@ -146,7 +151,9 @@ pub fn chains_carry_chances_back()
         AtMost (chance_of (setting_of ds i) x a last) zero_chance →
         AtMost (chance_of (setting_of ds i) x a first)
         (sum_value i advantages (summed [] (costs_behind links))) }
-    ensures tapes { (i : Interpretation) (advantages : Advantages) (links : List Link) →
+    ensures tapes { (ds : List Declaration) (known : ℕ → Bool) (first : Tree) (links : List Link)
+        (last : Tree) → IsChain ds known first links last →
+        (i : Interpretation) → Satisfies ds i → (advantages : Advantages) →
         HaveTapedPrices advantages links →
         HasTapes (sum_value i advantages (summed [] (costs_behind links))) }
 {}

@@ -61,7 +61,9 @@ pub fn chains_carry_secrets_back()
         AtMost (secrecy (setting_of ds i) one x a last) zero_chance →
         AtMost (secrecy (setting_of ds i) one x a first)
         (sum_value i advantages (summed_by true [] (costs_behind links))) }
-    ensures tapes { (i : Interpretation) (advantages : Advantages) (links : List Link) →
+    ensures tapes { (ds : List Declaration) (known : ℕ → Bool) (first : Tree) (links : List Link)
+        (last : Tree) → IsChain ds known first links last →
+        (i : Interpretation) → Satisfies ds i → (advantages : Advantages) →
         HaveTapedPrices (λ n e. advantages n term.Real) links →
         HaveTapedPrices (λ n e. advantages n term.Random) links →
         HasTapes (sum_value i advantages (summed_by true [] (costs_behind links))) }

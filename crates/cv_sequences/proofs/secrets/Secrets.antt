@@ -40,10 +40,11 @@ around p q r s v w k l m n h e j =
 pub both_plain : (i : Interpretation) (advantages : Advantages) (costs : List SumCost) → both i advantages (summed_by false [] costs) (summed_by false [] costs) ≡ both i advantages (summed [] costs) (summed [] costs)
 both_plain i advantages costs = ap₂ (both i advantages) (plain [] costs) (plain [] costs)
 
-pub taped : (i : Interpretation) (advantages : Advantages) (links : List Link) → HaveTapedPrices (real i advantages) links → HaveTapedPrices (random i advantages) links → HasTapes (sum_value i advantages (summed_by true [] (costs_behind links)))
-taped i advantages links h k =
+pub taped : (ds : List Declaration) (known : ℕ → Bool) (first : Tree) (links : List Link) (last : Tree) → IsChain ds known first links last → (i : Interpretation) → Satisfies ds i → (advantages : Advantages)
+    → HaveTapedPrices (real i advantages) links → HaveTapedPrices (random i advantages) links → HasTapes (sum_value i advantages (summed_by true [] (costs_behind links)))
+taped ds known first links last c i sat advantages h k =
     (of_both i advantages (costs_behind links)).back
-    (subst HasTapes (sym (both_plain i advantages (costs_behind links))) (mul-pos (taped_sum i (real i advantages) links h) (taped_sum i (random i advantages) links k)))
+    (subst HasTapes (sym (both_plain i advantages (costs_behind links))) (mul-pos (taped_sum ds known first links last c i sat (real i advantages) h) (taped_sum ds known first links last c i sat (random i advantages) k)))
 
 module _ (ds : List Declaration) (own : ℕ) (first : Tree) (w : IsFileOf ds own first) (i : Interpretation) (sat : Satisfies ds i) where
   -- each choice and test of an experiment has a value in each game of the chain

@@ -33,6 +33,9 @@ twice p q r = fraction _ _ (omega arith) (omega arith)
 crossed : (p q r s : Chance) → plus (plus p q) (plus r s) ≡ plus (plus p r) (plus q s)
 crossed p q r s = fraction _ _ (omega arith) (omega arith)
 
+pub added_alike : (i : Interpretation) (a : Advantages) (sum : List Term) (c : Cost) (secrecy : Bool) → AreAlike (sum_value i a (added sum c secrecy)) (plus (sum_value i a sum) (cost_value i a c secrecy))
+added_alike i a sum c secrecy = record { same = value_is_added i a sum c secrecy; forth = tapes_were_had i a sum c secrecy; back = tapes_are_kept i a sum c secrecy }
+
 module _ (i : Interpretation) (advantages : Advantages) where
   abbrev pub real : Advantages
   real n e = advantages n term.Real
@@ -55,9 +58,6 @@ module _ (i : Interpretation) (advantages : Advantages) where
   cost_of_both (cost.Collisions cs) = collisions_of_both cs
   cost_of_both (cost.Advantage n e) = fraction _ _ (omega arith) (omega arith)
 
-  added_alike : (a : Advantages) (sum : List Term) (c : Cost) (secrecy : Bool) → AreAlike (sum_value i a (added sum c secrecy)) (plus (sum_value i a sum) (cost_value i a c secrecy))
-  added_alike a sum c secrecy = record { same = value_is_added i a sum c secrecy; forth = tapes_were_had i a sum c secrecy; back = tapes_are_kept i a sum c secrecy }
-
   -- with a cost more the sum is still worth both
   one_more : (sum first second : List Term) (c : Cost) → AreAlike (sum_value i advantages sum) (both first second) → AreAlike (sum_value i advantages (added sum c true)) (both (added first c false) (added second c false))
   one_more sum first second c h =
@@ -67,10 +67,10 @@ module _ (i : Interpretation) (advantages : Advantages) where
       let more : Chance = cost_value i real c false in
       let too : Chance = cost_value i random c false in
       let whole : Chance = cost_value i advantages c true in
-      alike_trans _ (plus here whole) _ (added_alike advantages sum c true)
+      alike_trans _ (plus here whole) _ (added_alike i advantages sum c true)
       (alike_trans _ (plus (plus left right) (plus more too)) _ (alike_plus here (plus left right) whole (plus more too) h (alike_equal whole (plus more too) (cost_of_both c)))
       (alike_trans _ (plus (plus left more) (plus right too)) _ (alike_equal _ _ (crossed left right more too))
-      (alike_sym _ _ (alike_plus _ (plus left more) _ (plus right too) (added_alike real first c false) (added_alike random second c false)))))
+      (alike_sym _ _ (alike_plus _ (plus left more) _ (plus right too) (added_alike i real first c false) (added_alike i random second c false)))))
 
   both_behind : (sum first second : List Term) (costs : List Cost) → AreAlike (sum_value i advantages sum) (both first second)
       → AreAlike (sum_value i advantages (summed_by true sum costs)) (both (summed_by false first costs) (summed_by false second costs))

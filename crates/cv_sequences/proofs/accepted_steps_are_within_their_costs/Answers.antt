@@ -1,5 +1,5 @@
 use Rattle.cv_sequences.proofs.Accepted.{step_ready}
-use Rattle.cv_sequences.proofs.accepted_steps_keep_chances.Goals as goal
+use Rattle.cv_sequences.proofs.accepted_steps_are_within_their_costs.Goals as goal
 
 pub returns-clause-ready : goal.returns-clause-ready
 returns-clause-ready c = step_ready

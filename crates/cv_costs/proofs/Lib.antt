@@ -1,0 +1,3 @@
+pub mod Factors
+pub mod Values
+mod Parameters

@@ -1,0 +1,20 @@
+-- Costs of collisions with one value of a type, for each copy below replications. Blanchet, TDSC 2008.
+use Rattle.std.specs.Prelude.{ℕ, false, List, [], ◌∷◌}
+use Rattle.std.specs.List.{flat_map}
+use Rattle.cv_syntax_trees.specs.declared.class.Class.TheVariants as class
+use Rattle.cv_syntax_trees.specs.Declarations.{Declaration, Named}
+use Rattle.cv_steps.specs.Steps.{Collisions, Cost}
+use Rattle.cv_costs.specs.Factors.{factors_of}
+
+-- the parameter that a declaration declares
+abbrev pub parameter_of : Declaration → List ℕ
+parameter_of (Named x class.Param arguments result) = x ∷ []
+parameter_of d = []
+
+-- those of a file, in order
+abbrev pub declared_parameters : List Declaration → List ℕ
+declared_parameters ds = flat_map parameter_of ds
+
+-- the chance of one value of a type, for each copy below replications with these parameters
+abbrev pub one_for_each : List Declaration → (parameters : List ℕ) → (type : ℕ) → Cost
+one_for_each ds ps T = Collisions ((record { times = 1; factors = factors_of (declared_parameters ds) ps; half = false; over = record { 0 = T } }) ∷ [])
