@@ -1,0 +1,5 @@
+pub mod Comparing
+pub mod Conditions
+pub mod Keeping
+pub mod Kept
+pub mod Sound

@@ -1,0 +1,5 @@
+pub mod Tuples
+pub mod Drawn
+pub mod Below
+pub mod Pairs
+pub mod Runs

@@ -1,0 +1,50 @@
+// Values that are chosen at random: each is that of its cell on the tape, and two are equal only by chance.
+
+ghost use Rattle.std.specs.Prelude.{◌≡◌, ℕ, List, Some, [], false, true};
+ghost use Rattle.std.specs.List.{AllByRecursion};
+ghost use Rattle.cv_syntax_trees.specs.Declarations.{Declaration};
+ghost use Rattle.cv_syntax_trees.specs.Tree.{Tree};
+ghost use Rattle.cv_directory_sorts.specs.declared.sort.Sort.TheVariants.{OfType};
+ghost use Rattle.cv_directory_sorts.specs.Sites.{Variable, first_site};
+ghost use Rattle.cv_meaning.specs.Cells.{cells};
+ghost use Rattle.cv_meaning.specs.Chances.{AtMost, chance};
+ghost use Rattle.cv_meaning.specs.Experiments.{run, visits_of_run};
+ghost use Rattle.cv_meaning.specs.Interpretation.{Interpretation, Setting, setting_of};
+ghost use Rattle.cv_meaning.specs.Memory.{Store};
+ghost use Rattle.cv_meaning.specs.Runs.{Adversary, Mode};
+ghost use Rattle.cv_meaning.specs.Tapes.{Tape};
+ghost use Rattle.cv_meaning_chances.specs.Tests.{some_equal};
+ghost use Rattle.cv_scope_rules.specs.Phrases.{HasConstantsOf, IsWellFormed};
+ghost use Rattle.cv_typing_rules.specs.Parts.{IsTypedGame};
+ghost use Rattle.cv_scene.specs.Scenes.{has_news_alone};
+ghost use Rattle.cv_steps_wording.specs.Facts.{HoldsIn};
+ghost use Rattle.cv_rule_birthday_laws.specs.chosen.Drawn.{AreDrawn, choices_of, pairs_over};
+
+/// In a run of a well-formed game each value of a variable that `new` alone defines is that of its cell on the tape, at indices below
+/// the parameters of the variable's first definition: before each visit and at the end, on every tape.
+pub fn chosen_values_are_drawn()
+    ensures visits { (ds : List Declaration) (g : Setting) (m : Mode) (a : Adversary) (game : Tree)
+        (t : Tape) (x : ℕ) (v : Variable) → HasConstantsOf ds g → IsWellFormed ds game →
+        has_news_alone x game ≡ true → first_site x [] game ≡ Some v →
+        AllByRecursion (HoldsIn (AreDrawn g x v.parameters t)) (visits_of_run g m a game t) }
+    ensures last { (ds : List Declaration) (g : Setting) (m : Mode) (a : Adversary) (game : Tree)
+        (t : Tape) (x : ℕ) (v : Variable) → HasConstantsOf ds g → IsWellFormed ds game →
+        has_news_alone x game ≡ true → first_site x [] game ≡ Some v →
+        AreDrawn g x v.parameters t (run g m a game t).memory.store }
+{}
+
+/// Where no two cells of such a variable hold one value on the tape, values of it that are equal stand at one tuple.
+pub fn equal_values_stand_at_one_tuple()
+    ensures { (g : Setting) (x : ℕ) (parameters : List ℕ) (t : Tape) (m : Store) →
+        AreDrawn g x parameters t m → some_equal (choices_of g x parameters) t ≡ false →
+        (u w : List ℕ) (v : ℕ) → m x u ≡ Some v → m x w ≡ Some v → u ≡ w }
+{}
+
+/// That two of them hold one value has a chance of at most the square of the copies in twice the size of the type.
+pub fn equal_choices_are_rare()
+    ensures { (ds : List Declaration) (i : Interpretation) (m : Mode) (a : Adversary) (game : Tree)
+        (x type : ℕ) (v : Variable) → IsWellFormed ds game → IsTypedGame ds game →
+        has_news_alone x game ≡ true → first_site x [] game ≡ Some v → v.sort ≡ OfType type →
+        AtMost (chance (cells (setting_of ds i) m a game)
+        (some_equal (choices_of (setting_of ds i) x v.parameters))) (pairs_over v.parameters type i) }
+{}
