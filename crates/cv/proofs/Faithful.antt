@@ -311,7 +311,7 @@ module _ (ds : List Declaration) (own : ℕ) (first : Tree) where
       let sum = sym (plain [] (costs_behind h.links)) ∙ (h.sums false ∙ plain [] (map (λ t. t.cost) ts)) in (
         has_tapes ds own first w i sat x q v a [] first chains.start,
         has_tapes ds own first w i sat x q v a h.links last h.chain,
-        subst (λ s. HasTapes (sum_value i advantages s)) sum (taped_sum i advantages h.links (taped_prices ds own first taped i sat x a advantages (valued_along ds own first w i sat x q v) h.links last h.chain priced)),
+        subst (λ s. HasTapes (sum_value i advantages s)) sum (taped_sum ds (known_to own) first h.links last h.chain i sat advantages (taped_prices ds own first taped i sat x a advantages (valued_along ds own first w i sat x q v) h.links last h.chain priced)),
         subst (λ s. AtMost (distance (chance_of (setting_of ds i) x a first) (chance_of (setting_of ds i) x a last)) (sum_value i advantages s)) sum
             (within ds own first w i sat x q v a advantages h.links last h.chain priced),
       )

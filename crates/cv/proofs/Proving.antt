@@ -169,7 +169,7 @@ module _ (ds : List Declaration) (own : ℕ) (first : Tree) (w : IsFileOf ds own
         let advantages = advantages_of ds i cs query a in
         let priced = prices ds own cs i (Breaks query) a advantages (λ n. refl) first h.links h.contexts in
         let valued_along = λ (links : List Link) (game : Tree) (chain : IsChain ds (known_to own) first links game). events_valued ds game (games_ready ds own first w links game chain) i sat in (
-          subst (λ x. HasTapes (sum_value i advantages x)) sum (taped_sum i advantages h.links (taped_prices ds own first taped i sat (Breaks query) a advantages valued_along h.links here.game h.chain priced)),
+          subst (λ x. HasTapes (sum_value i advantages x)) sum (taped_sum ds (known_to own) first h.links here.game h.chain i sat advantages (taped_prices ds own first taped i sat (Breaks query) a advantages valued_along h.links here.game h.chain priced)),
           subst (λ x. AtMost (chance_of (setting_of ds i) (Breaks query) a first) (sum_value i advantages x)) sum
               (carried ds own first w i sat (Breaks query) asks (events_valued ds first w.ready i sat) a advantages h.links here.game h.chain priced (never (at here.game) query certificate proved i sat a)),
         )
@@ -191,7 +191,7 @@ module _ (ds : List Declaration) (own : ℕ) (first : Tree) (w : IsFileOf ds own
         let v_random = values i sat drawn asks in
         let along = valued ds own first w i sat in (
           subst (λ z. HasTapes (sum_value i advantages z)) sum
-              (taped_secret i advantages h.links (taped_prices ds own first taped i sat shown a real (along shown asks v) h.links here.game h.chain priced)
+              (taped_secret ds (known_to own) first h.links here.game h.chain i sat advantages (taped_prices ds own first taped i sat shown a real (along shown asks v) h.links here.game h.chain priced)
               (taped_prices ds own first taped i sat drawn a random (along drawn asks v_random) h.links here.game h.chain priced_random)),
           subst (λ z. AtMost (secrecy (setting_of ds i) one x a first) (sum_value i advantages z)) sum
               (carried_secret ds own first w i sat one x asks asks v v_random a advantages h.links here.game h.chain priced priced_random (none i a)),

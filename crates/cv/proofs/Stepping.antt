@@ -35,7 +35,8 @@ use Rattle.cv_sequences.specs.Chains.{ByEquivalence, ByStep, IsClose, IsFileOf, 
 use Rattle.cv_sequences.proofs.Chains.{link_close, valued as valued_along}
 use Rattle.cv_sequences.proofs.secrets.Alike.{left_positive}
 use Rattle.cv_steps.specs.Sequences.{scene}
-use Rattle.cv_steps.specs.Steps.{Zero}
+use Rattle.cv_sequences.proofs.costs.Costs.{cost_worth}
+use Rattle.cv_steps.specs.Steps.{Collisions, Zero}
 use Rattle.cv_steps_crypto.specs.Steps.{reduction_of}
 use Rattle.cv_steps_crypto.proofs.Accepted.{accepted}
 use Rattle.cv.specs.Contexts.{contexts_in}
@@ -87,6 +88,9 @@ module _ (ds : List Declaration) (own : ℕ) (first : Tree) (w : IsFileOf ds own
 
     of_cost : (game : Tree) (l : Link) → HasContext cs (at game) l → IsLink (at game) l → HasValuesIn (setting_of ds i) (mode_of x) game → IsClose (at game) i x a l → AreOfCost ds i cs x a (cost_behind l) (chance_in game) (chance_in (next_behind l))
     of_cost game (ByStep step Zero next) h o v k = ((k.before, k.behind, omega arith, k.within (advantages_in ds i cs x a) tt), (k.before, k.behind, k.sides))
+    of_cost game (ByStep step (Collisions c) next) h o v k =
+        let worth = subst HasTapes (sym (cost_worth i (advantages_in ds i cs x a) (Collisions c))) k.sides.0 in
+        ((k.before, k.behind, worth, k.within (advantages_in ds i cs x a) tt), (k.before, k.behind, k.sides.0, k.sides.1))
     of_cost game (ByEquivalence n e key next) h o v k =
         let y = accepted (at game) e key next o in
         let c = context_of_game (reduction_of (at game) y.equivalence key) in

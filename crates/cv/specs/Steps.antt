@@ -1,17 +1,18 @@
 -- What each step of a report does by itself: its two games differ by at most its own cost, and those of a cryptographic step are its context
 -- with either side. Contexts are those of Blanchet and Pointcheval, CRYPTO 2006.
-use Rattle.std.specs.Prelude.{◌≡◌, ℕ, false, List, [], ◌∷◌, take, Some, IfSome, MatchOption, slice_get}
+use Rattle.std.specs.Prelude.{◌≡◌, ℕ, false, List, [], ◌∷◌, map, take, Some, IfSome, MatchOption, slice_get}
+use Rattle.cv_bound.specs.declared.cost.Collision.{Collision}
 use Rattle.cv_bound.specs.declared.cost.Cost.{Cost}
 use Rattle.cv_bound.specs.declared.cost.Cost.TheVariants.{Advantage, Collisions, Zero}
-use Rattle.cv_bound_values.specs.Values.{cost_value}
+use Rattle.cv_bound_values.specs.Values.{collision_value, cost_value}
 use Rattle.cv_meaning.specs.Advantage.{IsAsked, chance_of}
-use Rattle.cv_meaning.specs.Chances.{Chance, Same}
+use Rattle.cv_meaning.specs.Chances.{AtMost, Chance, Same, distance}
 use Rattle.cv_meaning.specs.Experiments.{Experiment}
 use Rattle.cv_meaning.specs.Interpretation.{Interpretation, setting_of}
 use Rattle.cv_meaning.specs.Queries.{queries_in}
 use Rattle.cv_meaning.specs.Runs.{Adversary}
 use Rattle.cv_meaning.specs.Satisfies.{Satisfies}
-use Rattle.cv_meaning_chances.specs.Fractions.{HasTapes}
+use Rattle.cv_meaning_chances.specs.Fractions.{HasTapes, sum_of}
 use Rattle.cv_meaning_contexts.specs.ContextAdvantage.{context_chance}
 use Rattle.cv_meaning_contexts.specs.Groups.{Left, Right}
 use Rattle.cv_pool.specs.KindTree.{KindTree}
@@ -30,11 +31,15 @@ use Rattle.cv.specs.Values.{Contexts, advantages_in, context_of}
 abbrev pub AreEqual : Chance → Chance → Type 0
 AreEqual p q = HasTapes p × HasTapes q × Same p q
 
--- What a cost says of the chances before and behind a step: none, that they are the same; an advantage, that they are those of the step's
--- context, which is there, with the left and with the right side.
+-- The chances of collisions are a number together, whatever the contexts are, and the two differ by at most that.
+abbrev pub AreApart : Interpretation → List Collision → (before behind : Chance) → Type 0
+AreApart i cs p q = HasTapes p × HasTapes q × HasTapes (sum_of (map (collision_value i) cs)) × AtMost (distance p q) (sum_of (map (collision_value i) cs))
+
+-- What a cost says of the chances before and behind a step: none, that they are the same; collisions, that they differ by at most the chances
+-- of these; an advantage, that they are those of the step's context, which is there, with the left and with the right side.
 abbrev pub AreFrom : List Declaration → Interpretation → Contexts → Experiment → Adversary → Cost → (before behind : Chance) → Type 0
 AreFrom ds i cs x a Zero p q = AreEqual p q
-AreFrom ds i cs x a (Collisions c) p q = Unit {0}
+AreFrom ds i cs x a (Collisions c) p q = AreApart i c p q
 AreFrom ds i cs x a (Advantage step e) p q = MatchOption (context_of cs step) ⊥ (λ c. AreEqual p (context_chance ds i c Left x a) × AreEqual q (context_chance ds i c Right x a))
 
 -- Besides they differ by at most its value.

@@ -3,3 +3,4 @@ pub mod Extents
 pub mod Laying
 pub mod Lists
 pub mod Stacks
+mod Descent

@@ -8,10 +8,12 @@ mod making;
 mod measuring;
 mod parts;
 mod plan;
+mod terms;
 
 pub use change::Change;
 pub use dropping::{drop_variable, measure_without};
 pub use making::make_game;
 pub use measuring::measure;
 pub use parts::{Part, Parts};
-pub use plan::Failure;
+pub use plan::{Failure, Priced};
+pub use terms::{has_site, has_term_at};

@@ -12,7 +12,7 @@ use Rattle.cv_bound.specs.declared.closings.queries.ClosedQuery.{ClosedQuery}
 use Rattle.cv_kernel.specs.Drawings.{DrawsAlong}
 use Rattle.cv_kernel.specs.Proofs.{IsProof, Transition, closed_by, sum_of}
 use Rattle.cv_kernel.specs.Reducings.{reducing_in}
-use Rattle.cv_kernel.specs.Sequences.{IsPushed, Same, Stands, game_in, needed_for}
+use Rattle.cv_kernel.specs.Sequences.{AreModest, IsPushed, Same, Stands, game_in, needed_for}
 use Rattle.cv_kernel.specs.declared.error.PushError.{PushError}
 use Rattle.cv_kernel.specs.declared.error.PushError.TheVariants as fault
 use Rattle.cv_kernel.specs.declared.reducing.Reducing.{Reducing}
@@ -60,6 +60,7 @@ use Rattle.cv_follow.proofs.Growing.{Grows_same}
 use Rattle.cv_follow.proofs.Following.{asked_by, entries_more, entries_same, equivalences_kept, followed_more, followed_none, on_none, stops_at, verdicts}
 use Rattle.cv_follow.proofs.NamesKept.{names_kept}
 use Rattle.cv_follow.proofs.QueryLists.{queries_same}
+use Rattle.cv_bound.specs.declared.costs.sums.Sums.{Sums}
 use Rattle.cv_bound.specs.costs.Sums.{SumsFit, no_sums}
 use Rattle.cv_scope_rules.specs.Phrases.{IsWellFormed}
 
@@ -114,10 +115,10 @@ kept_back old mid new s t trail after n k e r l i d =
 
 -- what was looked up in a game is there, or nothing was
 pub stands_now : (trees : List KindTree) (decls : DeclsView) (s : Sequence) → s.arrays ≡ None → Stands trees decls (record s { arrays = None }) → Stands trees decls s
-stands_now trees decls s e h = record { live = h.live; small = h.small; formed = h.formed; arrays = on_none _ s.arrays e; fits = h.fits; few = h.few }
+stands_now trees decls s e h = record { live = h.live; small = h.small; formed = h.formed; arrays = on_none _ s.arrays e; fits = h.fits; modest = h.modest; few = h.few }
 
 pub stands_bare : (trees : List KindTree) (decls : DeclsView) (s : Sequence) → Stands trees decls s → Stands trees decls (record s { arrays = None })
-stands_bare trees decls s h = record { live = h.live; small = h.small; formed = h.formed; arrays = tt; fits = h.fits; few = h.few }
+stands_bare trees decls s h = record { live = h.live; small = h.small; formed = h.formed; arrays = tt; fits = h.fits; modest = h.modest; few = h.few }
 
 -- the game of a sequence stays
 pub game_stays : (old new : Work) (s t : Sequence) → Grows old.pool new.pool → Same s t → s.game.root.0 < length old.pool.trees → game_in new.pool.trees t ≡ game_in old.pool.trees s
@@ -137,6 +138,7 @@ may_again old new s t trail after m k =
             (subst (λ ds. IsWellFormed ds (game_in old.pool.trees s)) (sym (declarations_grown old.pool new.pool old.decls.list k.grows m.declared)) m.stands.formed));
         arrays = tt;
         fits = subst SumsFit (sym k.sequence.sum) m.stands.fits;
+        modest = subst (λ (q : Sums). AreModest q t.steps) (sym k.sequence.sum) (subst (AreModest s.sum) (sym k.sequence.steps) m.stands.modest);
         few = (let e = k.sequence.steps in let f = m.stands.few in omega arith);
       };
       declared = subst (λ (v : DeclsView). All (IsBelow (length new.pool.trees)) v.list) (sym k.decls) (below_grown old.pool new.pool old.decls.list k.grows m.declared);
@@ -410,6 +412,7 @@ may_begin w game s g n m live small formed below equivalences limit =
         formed = subst (IsWellFormed (declarations w.pool.trees w.decls.list)) (sym here) formed;
         arrays = tt;
         fits = subst SumsFit (sym m) (tt, tt);
+        modest = subst (λ (q : Sums). AreModest q s.steps) (sym m) (omega arith);
         few = omega (arith, n);
       };
       declared = below;

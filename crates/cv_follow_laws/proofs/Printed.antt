@@ -20,7 +20,7 @@ use Rattle.cv_report.specs.declared.report.Report.{Report}
 use Rattle.cv_report.specs.declared.report.Verdict.{Verdict}
 use Rattle.cv_report.specs.Text.{body_text, cost_text, entry_text, games_after, next_text, trail_text, verdicts_text}
 use Rattle.cv_report.specs.contexts.Contexts.{context_text}
-use Rattle.cv_report.specs.contexts.Factors.{parameter_in, parameters_in}
+use Rattle.cv_costs.specs.Factors.{parameter_in, parameters_in}
 use Rattle.cv_follow.specs.Scripts.{Told, entry_in}
 use Rattle.cv_follow_laws.specs.Reports.{AreFront, IsReportOf, file_in, said_along}
 use Rattle.cv_follow_laws.proofs.Alike.{file_is, names_are, trails_are, verdicts_are}

@@ -15,21 +15,25 @@ use Rattle.cv_scene.specs.Scenes.{Scene}
 use Rattle.cv_scene.specs.Terms.{is_game}
 use Rattle.cv_bound.specs.declared.cost.Cost.TheVariants as bound
 use Rattle.cv_steps.specs.Judgements.{Judgement, Refused, TooLarge, TooDeep, Accepted, judgement_of, judgement_of_row}
-use Rattle.cv_steps.specs.Steps.{Leads, Row, Step, Zero}
+use Rattle.cv_bound.specs.declared.cost.Cost.{Cost as SumCost}
+use Rattle.cv_bound.specs.Sums.{coefficients, terms_of}
+use Rattle.cv_steps.specs.Costs.{cost_of}
+use Rattle.cv_steps.specs.Steps.{Cost, Leads, Row, Step, Zero}
+use Rattle.cv_edit_places.specs.Plans.{most_coefficients}
 use Rattle.cv_edit_places.specs.declared.plan.Failure.{Failure}
 use Rattle.cv_rule.proofs.Leading.{stood}
-use Rattle.cv_edit.specs.declared.edit.Edit.{Edit}
+use Rattle.cv_kernel.specs.declared.planning.StepPlan.{StepPlan}
 use Rattle.cv_edit.specs.Edits.{CanBeMade, IsEditFault, edited, need_of}
 use Rattle.cv_kernel_crypto.specs.declared.games.testing.Next.{Next}
 use Rattle.cv_kernel.specs.declared.error.RuleError.{RuleError}
 use Rattle.cv_kernel.specs.declared.error.RuleError.TheVariants as rule
-use Rattle.cv_kernel.specs.Answers.{IsAnswer, IsDrawn, IsEditBy, IsNoGame, IsUnplanned}
+use Rattle.cv_kernel.specs.Answers.{IsAnswer, IsDrawn, IsEditBy, IsNoGame, IsPlan, IsPricedBy, IsUnplanned}
 use Rattle.cv_kernel.specs.Rules.{Rule, needed_by}
 use Rattle.cv_kernel.specs.Steps.{judgement_by}
 
-module _ (s : Scene) (next : Tree) where
+module _ (s : Scene) (next : Tree) (cost : Cost) where
   abbrev judged : Judgement
-  judged = judgement_of_row s (Leads next Zero)
+  judged = judgement_of_row s (Leads next cost)
 
   -- a number that is told passes a limit where the number does
   over_nodes : (n : ℕ) → nat_lt 50000 (told n) ≡ nat_lt 50000 n
@@ -47,7 +51,7 @@ module _ (s : Scene) (next : Tree) where
 
     -- a limit is passed
     over_by : (a b g : Bool) (e : BuildError) → fault_by nodes deep a b ≡ Some e
-        → (limit live need : ℕ) (trees : List KindTree) → IsAnswer limit live need (if a then TooLarge (size next) else if b then TooDeep (depth next) else if g then Accepted next Zero else Refused 9 0) trees (Err (rule.Build e))
+        → (limit live need : ℕ) (trees : List KindTree) → IsAnswer limit live need (if a then TooLarge (size next) else if b then TooDeep (depth next) else if g then Accepted next cost else Refused 9 0) trees (Err (rule.Build e))
     over_by true b g e w limit live need trees = subst (λ y. IsAnswer limit live need (TooLarge (size next)) trees (Err (rule.Build y))) (let i : build.Nodes nodes ≡ e = cc in i) (ap TooLarge (sym f))
     over_by false true g e w limit live need trees = subst (λ y. IsAnswer limit live need (TooDeep (depth next)) trees (Err (rule.Build y))) (let i : build.Depth deep ≡ e = cc in i) (ap TooDeep (sym h))
     over_by false false g e w limit live need trees = absurd (cc)
@@ -58,22 +62,22 @@ module _ (s : Scene) (next : Tree) where
 
     -- the limits hold
     within_by : (a b g : Bool) → fault_by nodes deep a b ≡ None
-        → (if a then TooLarge (size next) else if b then TooDeep (depth next) else if g then Accepted next Zero else Refused 9 0) ≡ (if g then Accepted next Zero else Refused 9 0)
+        → (if a then TooLarge (size next) else if b then TooDeep (depth next) else if g then Accepted next cost else Refused 9 0) ≡ (if g then Accepted next cost else Refused 9 0)
     within_by true b g w = absurd (cc)
     within_by false true g w = absurd (cc)
     within_by false false g w = refl
 
   module _ (nodes deep : ℕ) (f : nodes ≡ told (size next)) (h : deep ≡ told (depth next)) (w : limit_fault nodes deep ≡ None) where
-    judged_within : judged ≡ (if is_game s.declarations next then Accepted next Zero else Refused 9 0)
+    judged_within : judged ≡ (if is_game s.declarations next then Accepted next cost else Refused 9 0)
     judged_within = within_by nodes deep f h (nat_lt 50000 (size next)) (nat_lt 200 (depth next)) (is_game s.declarations next) (sym (fault_same nodes deep f h) ∙ w)
 
-    accepted : is_game s.declarations next ≡ true → judged ≡ Accepted next Zero
-    accepted e = judged_within ∙ ap (λ b. if b then Accepted next Zero else Refused 9 0) e
+    accepted : is_game s.declarations next ≡ true → judged ≡ Accepted next cost
+    accepted e = judged_within ∙ ap (λ b. if b then Accepted next cost else Refused 9 0) e
 
     pub refused : is_game s.declarations next ≡ false → judged ≡ Refused 9 0
-    refused e = judged_within ∙ ap (λ b. if b then Accepted next Zero else Refused 9 0) e
+    refused e = judged_within ∙ ap (λ b. if b then Accepted next cost else Refused 9 0) e
 
-    drawn_by : (b : Bool) → IsDrawn (if b then Accepted next Zero else Refused 9 0)
+    drawn_by : (b : Bool) → IsDrawn (if b then Accepted next cost else Refused 9 0)
     drawn_by true = tt
     drawn_by false = refl
 
@@ -97,14 +101,16 @@ module _ (s : Scene) (next : Tree) where
 
     -- what is drawn is tested
     pub game_answer : (limit live need : ℕ) (trees : List KindTree) (ds : List Declaration) (root : NodeId) → ds ≡ s.declarations → tree_at trees (Some root) ≡ next → live + need ≤ limit
-        → (r : Result Next RuleError) → IfOk r (λ n. n.game.root ≡ root) → IfOk r (λ n. n.cost ≡ bound.Zero) → OnOk r (is_game ds (tree_at trees (Some root)) ≡ true) → IfErr r (IsNoGame (is_game ds (tree_at trees (Some root)))) → IsAnswer limit live need judged trees r
-    game_answer limit live need trees ds root d t l (Ok n) a b g e = record {
-      cost = Zero;
-      accepted = accepted (ap₂ is_game (sym d) (sym t) ∙ g) ∙ ap (λ u. Accepted u Zero) (sym t ∙ ap (λ m. tree_at trees (Some m)) (sym a));
-      costs = b;
+        → (code : SumCost) → code ≡ cost_of cost → coefficients (terms_of code false) ≤ most_coefficients
+        → (r : Result Next RuleError) → IfOk r (λ n. n.game.root ≡ root) → IfOk r (λ n. n.cost ≡ code) → OnOk r (is_game ds (tree_at trees (Some root)) ≡ true) → IfErr r (IsNoGame (is_game ds (tree_at trees (Some root)))) → IsAnswer limit live need judged trees r
+    game_answer limit live need trees ds root d t l code k f (Ok n) a b g e = record {
+      cost = cost;
+      accepted = accepted (ap₂ is_game (sym d) (sym t) ∙ g) ∙ ap (λ u. Accepted u cost) (sym t ∙ ap (λ m. tree_at trees (Some m)) (sym a));
+      costs = b ∙ k;
+      few = subst (λ q. coefficients (terms_of q false) ≤ most_coefficients) (sym b) f;
       room = l;
     }
-    game_answer limit live need trees ds root d t l (Err y) a b g e = no_game_answer limit live need trees (is_game ds (tree_at trees (Some root))) y (ap₂ is_game (sym d) (sym t)) e
+    game_answer limit live need trees ds root d t l code k f (Err y) a b g e = no_game_answer limit live need trees (is_game ds (tree_at trees (Some root))) y (ap₂ is_game (sym d) (sym t)) e
 
 -- an error that was passed on
 pub answer_through : (limit live need : ℕ) (j : Judgement) (trees : List KindTree) (r : Result Next RuleError) (e : RuleError) → IsErrAnd r (λ x. x ≡ e) → IsAnswer limit live need j trees (Err e) → IsAnswer limit live need j trees r
@@ -129,15 +135,28 @@ unplanned_answer limit live need j trees (rule.Build (build.Depth n)) h = absurd
 judged_met : (s : Scene) (x : Step) (row : Row) → x.stands s ≡ true → x.row s ≡ row → judgement_of s x ≡ judgement_of_row s row
 judged_met s x row e f = ap (λ b. if b then judgement_of_row s (x.row s) else Refused 0 0) e ∙ ap (judgement_of_row s) f
 
-module _ (trees : List KindTree) (s : Scene) (e : Edit) where
-  pub planned_judgement : (o : Option Rule) → IsEditBy trees s o e → judgement_by s o ≡ judgement_of_row s (Leads (edited trees s.game e) Zero)
+module _ (trees : List KindTree) (s : Scene) (p : StepPlan) where
+  pub planned_judgement : (o : Option Rule) → (h : IsPricedBy trees s o p) → (c : Cost) × (p.cost ≡ cost_of c) × (judgement_by s o ≡ judgement_of_row s (Leads (edited trees s.game p.edit) c))
   planned_judgement None h = absurd h
-  planned_judgement (Some r) h = judged_met s r.step (Leads (edited trees s.game e) Zero) (stood s r.step h.met).0 h.leads
+  planned_judgement (Some r) h = (h.cost, h.same, judged_met s r.step (Leads (edited trees s.game p.edit) h.cost) (stood s r.step h.edit.met).0 h.edit.leads)
 
-  pub planned_need : (o : Option Rule) → IsEditBy trees s o e → needed_by s.game o ≡ need_of s.game e
+  pub planned_need : (o : Option Rule) → IsPricedBy trees s o p → needed_by s.game o ≡ need_of s.game p.edit
   planned_need None h = absurd h
-  planned_need (Some r) h = h.need
+  planned_need (Some r) h = h.edit.need
 
-  pub can_be_made : (o : Option Rule) → IsEditBy trees s o e → CanBeMade trees s.game e
+  pub can_be_made : (o : Option Rule) → IsPricedBy trees s o p → CanBeMade trees s.game p.edit
   can_be_made None h = absurd h
-  can_be_made (Some r) h = h.can
+  can_be_made (Some r) h = h.edit.can
+
+  pub planned_few : (o : Option Rule) → IsPricedBy trees s o p → coefficients (terms_of p.cost false) ≤ most_coefficients
+  planned_few None h = absurd h
+  planned_few (Some r) h = h.few
+
+-- an edit that costs nothing
+pub free_plan : (trees : List KindTree) (s : Scene) (o : Option Rule) (p : StepPlan) → p.cost ≡ bound.Zero → IsEditBy trees s o p.edit → IsPricedBy trees s o p
+free_plan trees s None p e h = absurd h
+free_plan trees s (Some r) p e h = record { cost = Zero; edit = h; same = e; few = subst (λ q. coefficients (terms_of q false) ≤ most_coefficients) (sym e) (omega arith) }
+
+pub plan_free : (trees : List KindTree) (s : Scene) (o : Option Rule) (r : Result StepPlan RuleError) (e : RuleError) → IsErrAnd r (λ x. x ≡ e) → IsUnplanned (judgement_by s o) e → IsPlan trees s o r
+plan_free trees s o (Ok p) e i h = absurd i
+plan_free trees s o (Err x) e i h = subst (IsUnplanned (judgement_by s o)) (sym i) h

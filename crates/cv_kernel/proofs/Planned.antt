@@ -23,7 +23,7 @@ use Rattle.cv_edit.specs.declared.edit.Edit.{Edit}
 use Rattle.cv_edit.specs.declared.edit.Edit.TheVariants as edit
 use Rattle.cv_kernel.specs.declared.error.RuleError.{RuleError}
 use Rattle.cv_kernel.specs.declared.error.RuleError.TheVariants as rule
-use Rattle.cv_kernel.specs.Answers.{IsEdit, IsPlan, IsUnplanned}
+use Rattle.cv_kernel.specs.Answers.{IsEdit, IsEditPlan, IsUnplanned}
 use Rattle.cv_kernel.specs.Rules.{Rule}
 use Rattle.cv_kernel.specs.Steps.{IsShort}
 use Rattle.cv_kernel.proofs.Fits.{let_fits, new_fits, replace_fits, split_fits}
@@ -38,15 +38,15 @@ absent p s l = grind (arith, nat_tests)
 
 module _ (trees : List KindTree) (s : Scene) where
   -- an edit, where the conditions of a rule were tested
-  pub plan_by : (r : Rule) (e : Edit) (o : Result Edit RuleError) → IfOk o (λ f. f ≡ e) → OnOk o (failure_of s r.step ≡ None) → IfErr o (IsUnplanned (judgement_of s r.step)) → (failure_of s r.step ≡ None → IsEdit trees s r e) → IsPlan trees s (Some r) o
+  pub plan_by : (r : Rule) (e : Edit) (o : Result Edit RuleError) → IfOk o (λ f. f ≡ e) → OnOk o (failure_of s r.step ≡ None) → IfErr o (IsUnplanned (judgement_of s r.step)) → (failure_of s r.step ≡ None → IsEdit trees s r e) → IsEditPlan trees s (Some r) o
   plan_by r e (Ok f) same met unmet is = subst (IsEdit trees s r) (sym same) (is met)
   plan_by r e (Err f) same met unmet is = unmet
 
   -- a place that no game has
-  stands_not : (x : Step) (b : Bool) → x.stands s ≡ b → b ≡ false → judgement_of s x ≡ Refused 0 0
+  pub stands_not : (x : Step) (b : Bool) → x.stands s ≡ b → b ≡ false → judgement_of s x ≡ Refused 0 0
   stands_not x b e f = ap (λ c. if c then judgement_of_row s (x.row s) else Refused 0 0) (e ∙ f)
 
-  pub unplaced : (r : Rule) (o : Result Edit RuleError) (e : RuleError) → IsErrAnd o (λ f. f ≡ e) → e ≡ rule.Refused (failed 0 0) → r.step.stands s ≡ false → IsPlan trees s (Some r) o
+  pub unplaced : (r : Rule) (o : Result Edit RuleError) (e : RuleError) → IsErrAnd o (λ f. f ≡ e) → e ≡ rule.Refused (failed 0 0) → r.step.stands s ≡ false → IsEditPlan trees s (Some r) o
   unplaced r (Ok f) e i h n = absurd i
   unplaced r (Err f) e i h n = subst (IsUnplanned (judgement_of s r.step)) (sym (i ∙ h)) (stands_not r.step (r.step.stands s) refl n)
 

@@ -1,5 +1,5 @@
 -- Steps that a sequence takes.
-use Rattle.std.proofs.Common.{◌≡◌, zero, suc, ◌+◌, ◌<◌, ◌≤◌, Bool, true, false, nat_lt, if◌then◌else◌, List, [], ◌∷◌, length, Option, Some, None, Result, Ok, Err, refl, sym, ap, ap₂, ◌∙◌, subst, arith}
+use Rattle.std.proofs.Common.{◌≡◌, ℕ, zero, suc, ◌+◌, ◌*◌, ◌<◌, ◌≤◌, Bool, true, false, nat_lt, if◌then◌else◌, List, [], ◌∷◌, length, Option, Some, None, Result, Ok, Err, refl, sym, ap, ap₂, ◌∙◌, subst, arith}
 use Rattle.std.proofs.lemmas.Bool.Decides.{nat_tests}
 use Rattle.std.specs.Prelude.{All, OnOk}
 use Rattle.cv_pool.specs.declared.node.NodeId.{NodeId}
@@ -16,7 +16,10 @@ use Rattle.cv_syntax.specs.PoolTrees.{tree_at}
 use Rattle.cv_syntax.proofs.Buildings.{child_grown}
 use Rattle.cv_directory.specs.Live.{IsLive}
 use Rattle.cv_bound.specs.declared.cost.Cost.{Cost as SumCost}
-use Rattle.cv_bound.specs.Sums.{with_terms}
+use Rattle.cv_bound.specs.declared.cost.Cost.TheVariants as bound
+use Rattle.cv_bound.specs.Sums.{coefficients, terms_of}
+use Rattle.cv_bound_values.proofs.Coefficients.{coefficients_added, counted_once, counted_twice, small_fit}
+use Rattle.cv_edit_places.specs.Plans.{most_coefficients}
 use Rattle.cv_bound.specs.costs.Sums.{SumsFit, with_cost}
 use Rattle.cv_bound.specs.declared.costs.sums.Sums.{Sums}
 use Rattle.cv_scene_view.specs.Kept.{scene_of}
@@ -24,7 +27,7 @@ use Rattle.cv_scene.specs.Scenes.{Scene}
 use Rattle.cv_scene.specs.Terms.{is_game}
 use Rattle.cv_steps.specs.Costs.{cost_of}
 use Rattle.cv_steps.specs.Judgements.{Judgement, Refused, TooLarge, TooDeep, Accepted, judgement_of_row}
-use Rattle.cv_steps.specs.Steps.{Cost, Fails, Leads, Row, Zero}
+use Rattle.cv_steps.specs.Steps.{Cost, Fails, Leads, Row}
 use Rattle.cv_kernel.specs.declared.error.PushError.{PushError}
 use Rattle.cv_kernel.specs.declared.error.PushError.TheVariants as push
 use Rattle.cv_kernel.specs.declared.sequence.Sequence.{Sequence}
@@ -32,7 +35,7 @@ use Rattle.cv_kernel.specs.Answers.{IsDrawn, as_told}
 use Rattle.cv_kernel.specs.Closings.{closing_in}
 use Rattle.cv_kernel.specs.Reducings.{reducing_in}
 use Rattle.cv_kernel.specs.Rules.{Rule, needed_by, rule_in}
-use Rattle.cv_kernel.specs.Sequences.{IsAdvanced, IsPushAnswer, IsPushed, Same, game_in, needed}
+use Rattle.cv_kernel.specs.Sequences.{AreModest, IsAdvanced, IsPushAnswer, IsPushed, Same, game_in, needed}
 use Rattle.cv_kernel.specs.Steps.{judgement_by}
 use Rattle.cv_kernel.proofs.StepAnswers.{rule_pushed}
 use Rattle.cv_kernel_crypto.proofs.Growing.{root_grown}
@@ -57,10 +60,19 @@ pub accepted_small : (s : Scene) (o : Option Rule) (n : Tree) (c : Cost) → jud
 accepted_small s None n c e = absurd (cc)
 accepted_small s (Some r) n c e = small_stand s (r.step.row s) (r.step.stands s) n c e
 
--- a cost that is nothing changes no sum
-pub fits_on : (sums : Sums) (c : SumCost) (cost : Cost) → c ≡ cost_of cost → SumsFit sums → SumsFit (with_cost sums c)
-unfolding with_terms
-fits_on sums c Zero e h = subst (λ d. SumsFit (with_cost sums d)) (sym e) h
+-- sums have room for a cost more
+
+counted_both : (c : SumCost) → coefficients (terms_of c true) ≡ 2 * coefficients (terms_of c false)
+counted_both bound.Zero = refl
+counted_both (bound.Collisions cs) = counted_twice cs ∙ ap (λ n. 2 * n) (sym (counted_once cs))
+counted_both (bound.Advantage n e) = refl
+
+module _ (sums : Sums) (c : SumCost) (steps : ℕ) (modest : AreModest sums steps) (few : coefficients (terms_of c false) ≤ most_coefficients) where
+  pub modest_on : AreModest (with_cost sums c) (steps + 1)
+  modest_on = omega (arith, modest, few, coefficients_added sums.plain c false, coefficients_added sums.secret c true, counted_both c)
+
+  pub fits_on : steps < 2000 → SumsFit (with_cost sums c)
+  fits_on l = (small_fit (with_cost sums c).plain (omega (arith, modest_on, l)), small_fit (with_cost sums c).secret (omega (arith, modest_on, l)))
 
 -- what stays while a pool grows
 

@@ -5,15 +5,17 @@ use Rattle.cv_syntax.specs.declared.work.BuildError.TheVariants as build
 use Rattle.cv_syntax.specs.limits.Limits.{told}
 use Rattle.cv_syntax.specs.PoolTrees.{tree_at}
 use Rattle.cv_scene.specs.Scenes.{Scene}
+use Rattle.cv_bound.specs.Sums.{coefficients, terms_of}
 use Rattle.cv_steps.specs.Costs.{cost_of}
 use Rattle.cv_steps.specs.Judgements.{Judgement, Refused, TooLarge, TooDeep, Accepted}
 use Rattle.cv_steps.specs.Steps.{Cost, Leads, Zero}
-use Rattle.cv_edit_places.specs.Plans.{failed, failure_of}
+use Rattle.cv_edit_places.specs.Plans.{failed, failure_of, most_coefficients}
 use Rattle.cv_edit.specs.declared.edit.Edit.{Edit}
 use Rattle.cv_edit.specs.Edits.{CanBeMade, edited, need_of}
 use Rattle.cv_kernel_crypto.specs.declared.games.testing.Next.{Next}
 use Rattle.cv_kernel.specs.declared.error.RuleError.{RuleError}
 use Rattle.cv_kernel.specs.declared.error.RuleError.TheVariants as rule
+use Rattle.cv_kernel.specs.declared.planning.StepPlan.{StepPlan}
 use Rattle.cv_kernel.specs.Rules.{Rule}
 use Rattle.cv_kernel.specs.Steps.{judgement_by}
 
@@ -34,6 +36,7 @@ pub record IsNext (limit live need : ℕ) (j : Judgement) (trees : List KindTree
   pub cost : Cost
   pub accepted : j ≡ Accepted (tree_at trees (Some next.game.root)) cost
   pub costs : next.cost ≡ cost_of cost
+  pub few : coefficients (terms_of next.cost false) ≤ most_coefficients
   pub room : live + need ≤ limit
 
 -- what is said of a step, with the size or the depth of a game that passes a limit as it is told
@@ -54,12 +57,16 @@ IsAnswer limit live need j trees (Err (rule.Build build.OutOfMemory)) = Unit {0}
 
 -- what the stages of a step answer
 
--- The conditions of the step hold, and its next game is the one with this edit, for which the pool is asked for as many nodes.
-pub record IsEdit (trees : List KindTree) (s : Scene) (r : Rule) (e : Edit) : Type 0 where
+-- The conditions of the step hold, and its next game is at this cost the one with this edit, for which the pool is asked for as many nodes.
+pub record IsCostlyEdit (trees : List KindTree) (s : Scene) (r : Rule) (cost : Cost) (e : Edit) : Type 0 where
   pub met : failure_of s r.step ≡ None
-  pub leads : r.step.row s ≡ Leads (edited trees s.game e) Zero
+  pub leads : r.step.row s ≡ Leads (edited trees s.game e) cost
   pub need : r.need s.game ≡ need_of s.game e
   pub can : CanBeMade trees s.game e
+
+-- and without a cost
+abbrev pub IsEdit : List KindTree → Scene → Rule → Edit → Type 0
+IsEdit trees s r e = IsCostlyEdit trees s r Zero e
 
 abbrev pub IsEditBy : List KindTree → Scene → Option Rule → Edit → Type 0
 IsEditBy trees s None e = ⊥
@@ -71,8 +78,24 @@ IsUnplanned j (rule.Refused f) = j ≡ Refused f.condition f.place
 IsUnplanned j (rule.Build build.OutOfMemory) = Unit {0}
 IsUnplanned j (rule.Build other) = ⊥
 
-abbrev pub IsPlan : List KindTree → Scene → Option Rule → Result Edit RuleError → Type 0
-IsPlan trees s o (Ok e) = IsEditBy trees s o e
+abbrev pub IsEditPlan : List KindTree → Scene → Option Rule → Result Edit RuleError → Type 0
+IsEditPlan trees s o (Ok e) = IsEditBy trees s o e
+IsEditPlan trees s o (Err e) = IsUnplanned (judgement_by s o) e
+
+-- an edit with what it costs; a sum has room for the coefficients of each step
+
+pub record IsPriced (trees : List KindTree) (s : Scene) (r : Rule) (p : StepPlan) : Type 0 where
+  pub cost : Cost
+  pub edit : IsCostlyEdit trees s r cost p.edit
+  pub same : p.cost ≡ cost_of cost
+  pub few : coefficients (terms_of p.cost false) ≤ most_coefficients
+
+abbrev pub IsPricedBy : List KindTree → Scene → Option Rule → StepPlan → Type 0
+IsPricedBy trees s None p = ⊥
+IsPricedBy trees s (Some r) p = IsPriced trees s r p
+
+abbrev pub IsPlan : List KindTree → Scene → Option Rule → Result StepPlan RuleError → Type 0
+IsPlan trees s o (Ok p) = IsPricedBy trees s o p
 IsPlan trees s o (Err e) = IsUnplanned (judgement_by s o) e
 
 -- no game stands at a node: it is none, or memory ran out

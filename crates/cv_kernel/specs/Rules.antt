@@ -18,6 +18,7 @@ use Rattle.cv_rule_array_names.specs.Row.{array_names_step}
 use Rattle.cv_rule_array_names.specs.Sites.{listed_names}
 use Rattle.cv_rule_codef.specs.Needs.{need_codef}
 use Rattle.cv_rule_codef.specs.Row.{codef_step}
+use Rattle.cv_rule_fresh.specs.collisions.Fresh.{fresh_step}
 use Rattle.cv_rule_merge.specs.Row.{merge_step, need_merging}
 use Rattle.cv_rule_move.specs.Steps.{move_step, need_moving}
 use Rattle.cv_rule_pick.specs.Needs.{need_picking}
@@ -48,7 +49,13 @@ rule_of_items (items.Merge p) = Some (record { step = merge_step p; need = need_
 rule_of_items (items.Codef p adds to from above) = Some (record { step = codef_step p adds above to from; need = need_codef p adds to })
 rule_of_items (items.ArrayRename x to) = Some (record { step = array_names_step x (listed_names to); need = need_splitting x (listed_names to) })
 rule_of_items (items.Pick p ms d e) = Some (record { step = pick_step p ms d e; need = need_picking p ms })
+rule_of_items (items.Fresh p) = Some (record { step = fresh_step p; need = need_at p 1 })
 rule_of_items other = None
+
+-- a step that costs something isn't free
+abbrev pub IsFree : StepItems → Type 0
+IsFree (items.Fresh p) = ⊥
+IsFree i = Unit {0}
 
 -- that of the step that a tree is
 abbrev pub rule_in : Tree → Option Rule

@@ -1,5 +1,5 @@
 -- What a sequence of games holds, and what a step does to it.
-use Rattle.std.specs.Prelude.{◌≡◌, ℕ, suc, ◌+◌, ◌<◌, ◌≤◌, List, [], ◌∷◌, ◌++◌, length, Option, Some, None, option_map, IfSome, IsSome, Result, Ok, Err}
+use Rattle.std.specs.Prelude.{◌≡◌, ℕ, suc, ◌+◌, ◌*◌, ◌<◌, ◌≤◌, List, [], ◌∷◌, ◌++◌, length, Option, Some, None, option_map, IfSome, IsSome, Result, Ok, Err}
 use Rattle.cv_pool.specs.KindTree.{KindTree}
 use Rattle.cv_pool.specs.PoolView.{PoolView}
 use Rattle.cv_syntax.specs.Classes.{DeclsView}
@@ -30,8 +30,11 @@ use Rattle.cv_kernel_crypto.specs.Applied as applied
 use Rattle.cv_kernel_crypto.specs.declared.fault.CryptoFault.{CryptoFault}
 use Rattle.cv_kernel_crypto.specs.declared.fault.CryptoFault.TheVariants as crypto
 use Rattle.cv_kernel.specs.Closings.{Closing, closing_failure, is_of_secrecy}
+use Rattle.cv_bound.specs.Sums.{coefficients}
 use Rattle.cv_bound.specs.costs.Costs.{advantage_of}
+use Rattle.cv_bound.specs.declared.costs.sums.Sums.{Sums}
 use Rattle.cv_bound.specs.costs.Sums.{SumsFit, sum_for, with_cost}
+use Rattle.cv_edit_places.specs.Plans.{most_coefficients}
 use Rattle.cv_kernel.specs.Answers.{HasNoRoom, as_told}
 use Rattle.cv_kernel.specs.Rules.{Rule, needed_by, rule_in}
 use Rattle.cv_kernel.specs.Steps.{judgement_by}
@@ -52,13 +55,19 @@ reduce_fault (crypto.Build e) = push.Build e
 abbrev pub game_in : List KindTree → Sequence → Tree
 game_in trees s = tree_at trees (Some s.game.root)
 
--- The last game is a live one within the limits and well-formed, and what there is to read in it was looked up there.
+-- of so many steps the coefficients are few: for secrecy a collision counts twice
+abbrev pub AreModest : Sums → (steps : ℕ) → Type 0
+AreModest sums steps = coefficients sums.plain + coefficients sums.secret ≤ steps * (3 * most_coefficients)
+
+-- The last game is a live one within the limits and well-formed, and what there is to read in it was looked up there. Sums have room
+-- for all steps that may follow.
 pub record Stands (trees : List KindTree) (decls : DeclsView) (s : Sequence) : Type 0 where
   pub live : s.game.root.0 < length trees
   pub small : size (game_in trees s) ≤ most_nodes
   pub formed : IsWellFormed (declarations trees decls.list) (game_in trees s)
   pub arrays : IfSome s.arrays (IsPrepared trees decls s.game.root)
   pub fits : SumsFit s.sum
+  pub modest : AreModest s.sum s.steps
   pub few : s.steps ≤ 2000
 
 abbrev pub IsReady : List KindTree → Sequence → Type 0

@@ -10,7 +10,7 @@ ghost use Rattle.cv_rule.specs.Stated.{IsLiveRule, step_of};
 ghost use Rattle.cv_edit_places.specs.Plans.{failure_of};
 ghost use Rattle.cv_edit_changes.specs.pruning.Bodies.{part_of};
 ghost use Rattle.cv_script.specs.Views as items;
-ghost use Rattle.cv_kernel.specs.Answers.{IsPlan, IsUnplanned};
+ghost use Rattle.cv_kernel.specs.Answers.{IsEditPlan, IsUnplanned};
 ghost use Rattle.cv_kernel.specs.Rules.{part_of as part_of_text, rule_of_items};
 ghost use Rattle.cv_kernel.specs.Steps.{IsShort};
 
@@ -63,7 +63,7 @@ pub(crate) fn split(
     requires declared { All (IsLive (length work.now.pool.trees)) work.now.decls.list }
     requires live { condition.0 < length work.now.pool.trees }
     requires short { IsShort (tree_at work.now.pool.trees (Some condition)) }
-    ensures { IsPlan work.now.pool.trees (scene_of work.now.pool work.now.decls game)
+    ensures { IsEditPlan work.now.pool.trees (scene_of work.now.pool work.now.decls game)
         (rule_of_items (items.Split number (tree_at work.now.pool.trees (Some condition)))) result }
 {
     let place = place_in(number)?;
@@ -88,7 +88,7 @@ pub(crate) fn after_let(
     requires declared { All (IsLive (length work.now.pool.trees)) work.now.decls.list }
     requires live { term.0 < length work.now.pool.trees }
     requires short { IsShort (tree_at work.now.pool.trees (Some term)) }
-    ensures { IsPlan work.now.pool.trees (scene_of work.now.pool work.now.decls game)
+    ensures { IsEditPlan work.now.pool.trees (scene_of work.now.pool work.now.decls game)
         (rule_of_items (items.Let number name of_type
         (tree_at work.now.pool.trees (Some term)))) result }
 {
@@ -120,7 +120,7 @@ pub(crate) fn after_new(
     requires prepared { IsPrepared work.now.pool.trees work.now.decls game arrays.now }
     requires small { size (tree_at work.now.pool.trees (Some game)) ≤ 50000 }
     requires declared { All (IsLive (length work.now.pool.trees)) work.now.decls.list }
-    ensures { IsPlan work.now.pool.trees (scene_of work.now.pool work.now.decls game)
+    ensures { IsEditPlan work.now.pool.trees (scene_of work.now.pool work.now.decls game)
         (rule_of_items (items.New number name of_type)) result }
 {
     let place = place_in(number)?;
@@ -150,7 +150,7 @@ pub(crate) fn rewritten(
     requires short { IsShort (tree_at work.now.pool.trees (Some term)) }
     requires by { ChildBelow (length work.now.pool.trees) by }
     requires lines { IsShort (tree_at work.now.pool.trees by) }
-    ensures { IsPlan work.now.pool.trees (scene_of work.now.pool work.now.decls game)
+    ensures { IsEditPlan work.now.pool.trees (scene_of work.now.pool work.now.decls game)
         (rule_of_items (items.Rewrite number (tree_at work.now.pool.trees (Some term))
         (tree_at work.now.pool.trees by))) result }
 {
@@ -186,7 +186,7 @@ pub(crate) fn pruned(
     requires declared { All (IsLive (length work.now.pool.trees)) work.now.decls.list }
     requires by { ChildBelow (length work.now.pool.trees) by }
     requires lines { IsShort (tree_at work.now.pool.trees by) }
-    ensures { IsPlan work.now.pool.trees (scene_of work.now.pool work.now.decls game)
+    ensures { IsEditPlan work.now.pool.trees (scene_of work.now.pool work.now.decls game)
         (rule_of_items (items.Prune number part (tree_at work.now.pool.trees by))) result }
 {
     let place = place_in(number)?;

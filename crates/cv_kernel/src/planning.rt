@@ -1,4 +1,6 @@
-ghost use Rattle.std.specs.Prelude.{◌≡◌, ◌≤◌, ◌^◌, All, IfErr, IfOk, Some, length};
+ghost use Rattle.std.specs.Prelude.{◌≡◌, ◌≤◌, ◌^◌, All, IfErr, IfOk, List, Option, Some, length};
+ghost use Rattle.cv_pool.specs.KindTree.{KindTree};
+ghost use Rattle.cv_scene.specs.Scenes.{Scene};
 ghost use Rattle.cv_syntax_trees.specs.Tree.{size};
 ghost use Rattle.cv_syntax.specs.PoolTrees.{tree_at};
 ghost use Rattle.cv_directory.specs.Live.{IsLive};
@@ -6,13 +8,15 @@ ghost use Rattle.cv_scene_view.specs.Kept.{scene_of};
 ghost use Rattle.cv_rule.specs.Prepared.{IsPrepared};
 ghost use Rattle.cv_edit_places.specs.Plans.{failed};
 ghost use Rattle.cv_script.specs.Views.{AreLive, items_of_view};
-ghost use Rattle.cv_kernel.specs.Answers.{IsPlan};
-ghost use Rattle.cv_kernel.specs.Rules.{rule_of_items};
+ghost use Rattle.cv_kernel.specs.Answers.{IsEditBy, IsEditPlan, IsPlan, IsPricedBy};
+ghost use Rattle.cv_kernel.specs.Rules as rules;
+ghost use Rattle.cv_kernel.specs.Rules.{IsFree, rule_of_items};
 ghost use Rattle.cv_kernel.specs.Steps.{AreShort};
 
 use crate::elementary::{after_let, after_new, pruned, rewritten, split, tested};
 use crate::error::RuleError;
-use crate::rooms::{codefined, merged, moved, picked, split_definitions};
+use crate::rooms::{codefined, merged, missed, moved, picked, split_definitions};
+use cv_bound::Cost;
 use cv_edit::Edit;
 use cv_edit_places::Failure;
 use cv_rule::Rule;
@@ -21,6 +25,13 @@ use cv_script::StepView;
 use cv_syntax::{NodeId, Work};
 use cv_typing::Arrays;
 use std::alloc::Global;
+
+/// How a step changes a game, and what it costs.
+#[derive(Drop)]
+pub(crate) struct StepPlan {
+    pub(crate) edit: Edit,
+    pub(crate) cost: Cost,
+}
 
 /// A step that fails a condition at no place.
 pub(crate) fn refused(condition: u32) -> RuleError
@@ -44,8 +55,9 @@ pub(crate) fn place_in(number: u64) -> Result<u32, RuleError>
     Ok(number as u32)
 }
 
-/// How a step changes a game, where all its conditions hold there. Each rule has one arm; a step of another kind has no rule yet.
-pub(crate) fn plan(
+/// How a step that costs nothing changes a game, where all its conditions hold there. Each rule has one arm; a step of another kind
+/// has no rule yet.
+fn free_edit(
     alloc: Global,
     work: &Work,
     game: NodeId,
@@ -57,7 +69,8 @@ pub(crate) fn plan(
     requires declared { All (IsLive (length work.now.pool.trees)) work.now.decls.list }
     requires live { AreLive (length work.now.pool.trees) view }
     requires short { AreShort (items_of_view work.now.pool.trees view) }
-    ensures { IsPlan work.now.pool.trees (scene_of work.now.pool work.now.decls game)
+    requires free { IsFree (items_of_view work.now.pool.trees view) }
+    ensures { IsEditPlan work.now.pool.trees (scene_of work.now.pool work.now.decls game)
         (rule_of_items (items_of_view work.now.pool.trees view)) result }
 {
     match view {
@@ -109,5 +122,41 @@ pub(crate) fn plan(
             picked(alloc, work, game, arrays, place, terms, by)
         }
         _ => Err(refused(0)),
+    }
+}
+
+/// An edit that costs nothing.
+fn at_no_cost(edit: Edit) -> StepPlan
+    ensures { (trees : List KindTree) (s : Scene) (o : Option rules.Rule) → IsEditBy trees s o edit
+        → IsPricedBy trees s o result }
+{
+    StepPlan {
+        edit,
+        cost: Cost::Zero,
+    }
+}
+
+/// How a step changes a game and what it costs, where all its conditions hold there.
+pub(crate) fn plan(
+    alloc: Global,
+    work: &Work,
+    game: NodeId,
+    arrays: &Arrays,
+    view: StepView,
+) -> Result<StepPlan, RuleError>
+    requires prepared { IsPrepared work.now.pool.trees work.now.decls game arrays.now }
+    requires small { size (tree_at work.now.pool.trees (Some game)) ≤ 50000 }
+    requires declared { All (IsLive (length work.now.pool.trees)) work.now.decls.list }
+    requires live { AreLive (length work.now.pool.trees) view }
+    requires short { AreShort (items_of_view work.now.pool.trees view) }
+    ensures { IsPlan work.now.pool.trees (scene_of work.now.pool work.now.decls game)
+        (rule_of_items (items_of_view work.now.pool.trees view)) result }
+{
+    match view {
+        StepView::Fresh { place } => missed(alloc, work, game, arrays, place),
+        _ => {
+            let edit = free_edit(alloc, work, game, arrays, view)?;
+            Ok(at_no_cost(edit))
+        }
     }
 }

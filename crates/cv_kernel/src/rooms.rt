@@ -8,20 +8,21 @@ ghost use Rattle.cv_directory.specs.Live.{IsLive};
 ghost use Rattle.cv_scene.specs.Scenes.{Scene};
 ghost use Rattle.cv_scene_view.specs.Kept.{scene_of};
 ghost use Rattle.cv_edit_places.specs.Changes.{need_at};
-ghost use Rattle.cv_edit_places.specs.Plans.{IsPlanned};
+ghost use Rattle.cv_edit_places.specs.Plans.{IsPlanned, IsPriced};
 ghost use Rattle.cv_script.specs.Views as items;
-ghost use Rattle.cv_kernel.specs.Answers.{IsPlan};
+ghost use Rattle.cv_kernel.specs.Answers.{IsEditPlan, IsPlan};
 ghost use Rattle.cv_kernel.specs.Rules as rules;
 ghost use Rattle.cv_kernel.specs.Rules.{rule_of_items};
 ghost use Rattle.cv_kernel.specs.Steps.{IsShort};
 ghost use Rattle.cv_rule.specs.Prepared.{IsPrepared};
 
 use crate::error::RuleError;
-use crate::planning::place_in;
+use crate::planning::{StepPlan, place_in};
 use cv_edit::Edit;
-use cv_edit_places::{Change, Failure};
+use cv_edit_places::{Change, Failure, Priced};
 use cv_rule_array_names as array_names;
 use cv_rule_codef as codefining;
+use cv_rule_fresh as missing;
 use cv_rule_merge as merging;
 use cv_rule_move as moving;
 use cv_rule_pick as picking;
@@ -34,7 +35,7 @@ use std::alloc::Global;
 fn at(place: u32, planned: Result<Change, Failure>) -> Result<Edit, RuleError>
     ensures { (trees : List KindTree) (s : Scene) (r : rules.Rule) (made : ℕ) →
         IsPlanned trees s r.step place made planned → r.need s.game ≡ need_at place made s.game →
-        IsPlan trees s (Some r) result }
+        IsEditPlan trees s (Some r) result }
 {
     match planned {
         Ok(change) => Ok(Edit::At { place, change }),
@@ -51,7 +52,7 @@ pub(crate) fn moved(
 ) -> Result<Edit, RuleError>
     requires live { game.0 < length work.now.pool.trees }
     requires small { size (tree_at work.now.pool.trees (Some game)) ≤ 50000 }
-    ensures { IsPlan work.now.pool.trees (scene_of work.now.pool work.now.decls game)
+    ensures { IsEditPlan work.now.pool.trees (scene_of work.now.pool work.now.decls game)
         (rule_of_items (items.Move number)) result }
 {
     let place = place_in(number)?;
@@ -68,7 +69,7 @@ pub(crate) fn merged(
     requires live { game.0 < length work.now.pool.trees }
     requires small { size (tree_at work.now.pool.trees (Some game)) ≤ 50000 }
     requires declared { All (IsLive (length work.now.pool.trees)) work.now.decls.list }
-    ensures { IsPlan work.now.pool.trees (scene_of work.now.pool work.now.decls game)
+    ensures { IsEditPlan work.now.pool.trees (scene_of work.now.pool work.now.decls game)
         (rule_of_items (items.Merge number)) result }
 {
     let place = place_in(number)?;
@@ -93,7 +94,7 @@ pub(crate) fn codefined(
     requires to { to.0 < length work.now.pool.trees }
     requires from { from.0 < length work.now.pool.trees }
     requires short { IsShort (tree_at work.now.pool.trees (Some to)) }
-    ensures { IsPlan work.now.pool.trees (scene_of work.now.pool work.now.decls game)
+    ensures { IsEditPlan work.now.pool.trees (scene_of work.now.pool work.now.decls game)
         (rule_of_items (items.Codef number adds (tree_at work.now.pool.trees (Some to))
         (tree_at work.now.pool.trees (Some from)) above)) result }
 {
@@ -114,7 +115,7 @@ pub(crate) fn split_definitions(
     requires small { size (tree_at work.now.pool.trees (Some game)) ≤ 50000 }
     requires declared { All (IsLive (length work.now.pool.trees)) work.now.decls.list }
     requires names { ChildBelow (length work.now.pool.trees) to }
-    ensures { IsPlan work.now.pool.trees (scene_of work.now.pool work.now.decls game)
+    ensures { IsEditPlan work.now.pool.trees (scene_of work.now.pool work.now.decls game)
         (rule_of_items (items.ArrayRename x (tree_at work.now.pool.trees to))) result }
 {
     let planned = array_names::plan(alloc, work, game, x, to)?;
@@ -143,7 +144,7 @@ pub(crate) fn picked(
     requires short { IsShort (tree_at work.now.pool.trees terms) }
     requires short_body { IsShort (tree_at work.now.pool.trees by.at_body) }
     requires short_find { IsShort (tree_at work.now.pool.trees by.at_find) }
-    ensures { IsPlan work.now.pool.trees (scene_of work.now.pool work.now.decls game)
+    ensures { IsEditPlan work.now.pool.trees (scene_of work.now.pool work.now.decls game)
         (rule_of_items (items.Pick number (tree_at work.now.pool.trees terms)
         (tree_at work.now.pool.trees by.at_body) (tree_at work.now.pool.trees by.at_find)))
         result }
@@ -151,4 +152,37 @@ pub(crate) fn picked(
     let place = place_in(number)?;
     let planned = picking::plan(alloc, work, game, arrays, place, terms, by)?;
     at(place, planned)
+}
+
+/// A change at a place with its cost as a plan, where it is planned.
+fn priced_at(place: u32, planned: Result<Priced, Failure>) -> Result<StepPlan, RuleError>
+    ensures { (trees : List KindTree) (s : Scene) (r : rules.Rule) (made : ℕ) →
+        IsPriced trees s r.step place made planned → r.need s.game ≡ need_at place made s.game →
+        IsPlan trees s (Some r) result }
+{
+    match planned {
+        Ok(Priced { change, cost }) => Ok(StepPlan {
+            edit: Edit::At { place, change },
+            cost,
+        }),
+        Err(failure) => Err(RuleError::Refused(failure)),
+    }
+}
+
+/// How a `fresh` changes a game, and what it costs.
+pub(crate) fn missed(
+    alloc: Global,
+    work: &Work,
+    game: NodeId,
+    arrays: &Arrays,
+    number: u64,
+) -> Result<StepPlan, RuleError>
+    requires prepared { IsPrepared work.now.pool.trees work.now.decls game arrays.now }
+    requires small { size (tree_at work.now.pool.trees (Some game)) ≤ 50000 }
+    requires declared { All (IsLive (length work.now.pool.trees)) work.now.decls.list }
+    ensures { IsPlan work.now.pool.trees (scene_of work.now.pool work.now.decls game)
+        (rule_of_items (items.Fresh number)) result }
+{
+    let place = place_in(number)?;
+    priced_at(place, missing::plan(alloc, work, game, arrays, place)?)
 }

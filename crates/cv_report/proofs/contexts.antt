@@ -1,4 +1,2 @@
-pub mod Factors
 pub mod Marked
 pub mod Powers
-pub mod Values

@@ -32,7 +32,7 @@ use Rattle.cv_report.specs.declared.report.Verdict.{Verdict}
 use Rattle.cv_report.specs.declared.report.Verdict.TheVariants.{Proved, NotProved}
 use Rattle.cv_report.specs.declared.report.Which.TheVariants.{File as FileLimit, Nodes, Depth, Steps, Pool}
 use Rattle.cv_report.specs.contexts.Contexts.{context_text}
-use Rattle.cv_report.specs.contexts.Factors.{parameters_in}
+use Rattle.cv_costs.specs.Factors.{parameters_in}
 
 -- the line of a step's cost
 abbrev pub cost_text : List (List ℕ) → Cost → List ℕ

@@ -1,3 +1,2 @@
 pub mod Contexts
-pub mod Factors
 pub mod Worked

@@ -2,8 +2,6 @@
 
 mod contexts;
 mod laws;
-mod products;
 
 pub use contexts::push_context;
-pub use laws::{factors_have_the_value, worked_contexts};
-pub use products::order_of;
+pub use laws::worked_contexts;

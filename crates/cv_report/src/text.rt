@@ -2,9 +2,10 @@
 ghost use Rattle.std.specs.Prelude.{◌≡◌, ◌+◌, ◌<◌, ◌^◌, ◌++◌, [], All, length, IfOk, OnOk, IfSome};
 ghost use Rattle.cv_report.specs.Text.{EntryLive, IsLive, body_text as body_of, condition_text, cost_text, end_text, entry_text, fault_text, games_after, games_text as games_of, grammar_text, group_text, lexis_text, next_text, no_close_text, numbered_text, open_text, place_text, query_text, refused_text, said_text, scope_text, script_text, step_refused_text, text_of, trail_text, types_text, verdict_text, verdicts_text};
 
-use crate::contexts::{order_of, push_context};
+use crate::contexts::push_context;
 use crate::report::{Cause, Entry, FileFault, Report, Status, Verdict, Which};
 use cv_bound::{Cost, listed_text};
+use cv_costs::order_of;
 use cv_group::GroupFault;
 use cv_lex::LexError;
 use cv_parse::ParseError;

@@ -1,7 +1,6 @@
 pub mod Parts
 pub mod Rowed
 pub mod Endings
-pub mod Terms
 pub mod Readings
 mod Guards
 pub mod Leading

@@ -9,70 +9,14 @@ ghost use Rattle.cv_typing.specs.Tables.{arrays_of};
 ghost use Rattle.cv_scope_rules.specs.Phrases as grammar;
 ghost use Rattle.cv_scene.specs.Terms as terms;
 ghost use Rattle.cv_steps.specs.Rewriting as rewriting;
-ghost use Rattle.cv_scene_view.specs.phrases.Phrases.{both, phrase_of};
 ghost use Rattle.cv_scene_view.specs.Kept.{scene_of};
 
 use cv_directory_sorts::Sort;
-use cv_path::{Lies, place_in};
+use cv_edit_places::has_term_at;
 use cv_scene_view::indices_at;
-use cv_scene_view::phrases::{Phrase, parts};
-use cv_syntax::{Head, NodeId, Pool, Work, read_node};
+use cv_syntax::{NodeId, Pool, Work};
 use cv_typing::{Arrays, sort_of_term};
 use std::alloc::{AllocError, Global};
-
-/// What the children of a node are; the indices of a read are passed over.
-fn parts_within(phrase: Phrase, head: Head) -> (Phrase, Phrase)
-    ensures { both result ≡ rewriting.parts_of (phrase_of phrase) head }
-{
-    match head {
-        Head::Read(_) => (Phrase::Nil, Phrase::Nil),
-        _ => match parts(phrase, head) {
-            Some(both) => both,
-            None => (Phrase::Nil, Phrase::Nil),
-        },
-    }
-}
-
-/// Whether what stands there is a term.
-fn is_term(phrase: Phrase) -> bool
-    ensures { result ≡ rewriting.is_term (phrase_of phrase) }
-{
-    match phrase {
-        Phrase::Term => true,
-        _ => false,
-    }
-}
-
-/// Whether at a place of a game stands a term that is no index and no cell.
-#[tactic(auto, using(cv_path::proofs::Going::going))]
-fn has_term_at(pool: &Pool, game: NodeId, place: u32) -> bool
-    requires live { game.0 < length pool.now.trees }
-    requires fits { size (tree_at pool.now.trees (Some game)) < 2 ^ 32 }
-    ensures { result ≡ rewriting.has_term_at grammar.Inputs (tree_at pool.now.trees (Some game))
-        place }
-{
-    let mut phrase = Phrase::Inputs;
-    let mut at = Some(game);
-    let mut left = place;
-    'down: while let Some(k) = at {
-        let node = read_node(pool, k);
-        let (first, second) = parts_within(phrase, node.head);
-        match place_in(pool, node, left) {
-            Lies::Here => return is_term(phrase),
-            Lies::Within(rest) => {
-                phrase = first;
-                at = node.first;
-                left = rest;
-            }
-            Lies::Behind(rest) => {
-                phrase = second;
-                at = node.second;
-                left = rest;
-            }
-        }
-    }
-    false
-}
 
 /// The sort of a term at a place of a game.
 pub(crate) fn sort_at(

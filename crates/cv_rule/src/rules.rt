@@ -2,9 +2,6 @@ ghost use Rattle.std.specs.Prelude.{◌≡◌, ◌<◌, ◌^◌, ◌&&◌, All, 
 ghost use Rattle.cv_syntax_trees.specs.Tree.{Tree, size};
 ghost use Rattle.cv_syntax.specs.PoolTrees.{tree_at};
 ghost use Rattle.cv_directory.specs.Live.{IsLive};
-ghost use Rattle.cv_directory_sorts.specs.Sites.{sites_of};
-ghost use Rattle.cv_typing_rules.specs.Signature.{OfGame};
-ghost use Rattle.cv_typing.specs.Tables.{arrays_of};
 ghost use Rattle.cv_steps.specs.Rows.{let_row, new_row, prune_row, rename_row, rewrite_row, split_row, unlet_row, unnew_row};
 ghost use Rattle.cv_edit_changes.specs.pruning.Bodies.{part_of};
 ghost use Rattle.cv_scene.specs.Pruning.{pruned};
@@ -21,7 +18,7 @@ use crate::rewriting::{has_sort_of, is_rewritable, sort_at};
 use crate::targets::{ends_with_equality, ends_with_falsity};
 use cv_edit_changes::pruning::{Body, body_to_prune};
 use cv_edit_changes::unletting::only_assignment;
-use cv_edit_places::Failure;
+use cv_edit_places::{Failure, has_site};
 use cv_scene_view::{
     first_reading, has_place, is_bool_at, is_chosen, is_known, is_new, is_output_at, is_queried,
     is_term_at, is_type, part_at,
@@ -233,14 +230,6 @@ fn unnew_conditions(work: &Work, game: NodeId, x: u32) -> Option<Failure>
         }),
         None => None,
     }
-}
-
-/// Whether a name is a variable of the game.
-fn has_site(arrays: &Arrays, x: u32) -> bool
-    ensures { (game : Tree) → arrays_of arrays.now ≡ OfGame (sites_of game)
-        → result ≡ terms.has_site game x }
-{
-    arrays.arity(x).is_some()
 }
 
 /// The first condition of `rename` that fails.

@@ -1,5 +1,5 @@
 -- What the step keeps.
-use Rattle.std.proofs.Common.{◌≡◌, ℕ, Bool, true, false, List, ap, refl, subst, ◌∙◌}
+use Rattle.std.proofs.Common.{◌≡◌, ℕ, Bool, true, false, not, List, ap, refl, subst, ◌∙◌}
 use Rattle.std.proofs.lemmas.Bool.{both_ways}
 use Rattle.cv_syntax_trees.specs.Tree.{Tree}
 use Rattle.cv_meaning.specs.Interpretation.{Interpretation, is_constant_of, setting_of}
@@ -7,16 +7,19 @@ use Rattle.cv_scope_rules.proofs.Unbound.{no_variable}
 use Rattle.cv_scope_rules.specs.Phrases.{Inputs, is_phrase}
 use Rattle.cv_scope_rules.specs.Scope.{is_variable, names_of}
 use Rattle.cv_scope_rules.specs.Standing.{at_root}
-use Rattle.cv_scene.specs.Scenes.{Scene}
+use Rattle.cv_scene.specs.Scenes.{Scene, is_queried}
+use Rattle.cv_derive_laws.proofs.stores.Costs.{free_taped, kept_costs}
 use Rattle.cv_steps.specs.Judgements.{Accepted, judgement_of}
 use Rattle.cv_steps.specs.Steps.{Cost}
+use Rattle.cv_steps.proofs.Rows.{IsFree, free_leads, free_unless, free_unless_at}
 use Rattle.cv_steps_laws.proofs.Indices.{Lacks, bound_before}
 use Rattle.cv_steps_laws.proofs.Keeping.{IsGame, accepted, game_formed}
 use Rattle.cv_derive_laws.specs.stores.Holding.{IsReady}
 use Rattle.cv_derive_laws.specs.stores.Steps.{IsSound}
-use Rattle.cv_rule_array_names.specs.Row.{array_names_step}
+use Rattle.cv_edit_names.specs.Cells.{first_mixed}
+use Rattle.cv_rule_array_names.specs.Row.{array_names_row, array_names_step}
 use Rattle.cv_edit_names.specs.Naming.{naming_of}
-use Rattle.cv_rule_array_names.specs.Sites.{AreNoConstants}
+use Rattle.cv_rule_array_names.specs.Sites.{AreNoConstants, has_names}
 use Rattle.cv_edit_names.specs.Splitting.{nothing_around}
 use Rattle.cv_rule_array_names_laws.proofs.Bound.{split_lacks}
 use Rattle.cv_rule_array_names_laws.proofs.Keeping.{keeps_chances, next_part}
@@ -62,11 +65,18 @@ module _ (s : Scene) (x : ℕ) (ys : List ℕ) (next : Tree) (t : IsTaken s x ys
           game_unread s.declarations next x no_constant t.game.formed.scoped t.game.named
           (variable_bound_nowhere (naming_of s.game x ys) (old_name s x ys next t.row) 0 s.game next (part ready.formed.phrase) (no_index at_root (names_of s.declarations s.game) x variable s.game ready.formed.scoped))
 
+-- it costs nothing
+array_names_free : (s : Scene) (x : ℕ) (ys : List ℕ) → IsFree (array_names_row s x ys)
+array_names_free s x ys =
+    free_unless (has_names s x ys) 1 0 _
+    (free_unless (not (is_queried s x)) 2 0 _ (free_unless_at 3 (first_mixed x 0 s.game) _ (free_leads _)))
+
 pub array_names_sound : (x : ℕ) (ys : List ℕ) → IsSound (array_names_step x ys)
 array_names_sound x ys = record {
   keeps = λ s next cost ready holds unreached knows e i.
       let t = step_taken s x ys next cost e in
-      keeps_chances s x ys next t.row ready knows t.game.formed.phrase (constants s x ys next t ready) (unread s x ys next t ready i) i;
+      kept_costs s.declarations s.game next cost (λ j. keeps_chances s x ys next t.row ready knows t.game.formed.phrase (constants s x ys next t ready) (unread s x ys next t ready j) j) i;
+  taped = λ s next cost e i sat. free_taped _ (array_names_free s x ys) next cost (accepted s (array_names_step x ys) next cost e).row i;
   declared = λ s next cost w d e.
       let t = step_taken s x ys next cost e in
       sorts_declared s.declarations (naming_of s.game x ys) 0 s.game next (part s x ys next t w) d;

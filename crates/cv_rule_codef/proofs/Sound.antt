@@ -10,6 +10,8 @@ use Rattle.cv_meaning_runs.specs.Replacement.{Process}
 use Rattle.cv_directory_sorts.specs.Sites.{index_here}
 use Rattle.cv_scope_rules.specs.Phrases.{Cells, Inputs, OneCell, Term, is_phrase}
 use Rattle.cv_scene.specs.Scenes.{Scene, part_at}
+use Rattle.cv_derive_laws.proofs.stores.Costs.{free_taped, kept_costs}
+use Rattle.cv_steps.proofs.Rows.{IsFree, free_leads, free_unless}
 use Rattle.cv_derive_laws.specs.stores.Steps.{IsSound}
 use Rattle.cv_steps_laws.proofs.Indices.{Lacks, bound_before, lacking_changed, lacking_empty, lacking_node, lacking_parts, lacking_term}
 use Rattle.cv_steps_laws.proofs.Keeping.{accepted}
@@ -17,8 +19,8 @@ use Rattle.cv_steps_laws.proofs.Sorts.{declared_replaced, sorts_kept}
 use Rattle.cv_steps_laws.proofs.Unletted.{IsKept}
 use Rattle.cv_steps_laws.proofs.Values.{values_kept, values_replaced}
 use Rattle.cv_typing_runs.specs.Games.{HasDeclaredSorts}
-use Rattle.cv_rule_codef.specs.Lists.{relisted, with_cell, with_list, without_cell}
-use Rattle.cv_rule_codef.specs.Row.{codef_step}
+use Rattle.cv_rule_codef.specs.Lists.{lists, relisted, with_cell, with_list, without_cell}
+use Rattle.cv_rule_codef.specs.Row.{are_codefined, codef_row, codef_step, may_relist}
 use Rattle.cv_rule_codef.proofs.Around.{IsOneItem, later, this}
 use Rattle.cv_rule_codef.proofs.Keeping.{AreCells, IsArm, IsCodef, arm_there, around, cells_there, codef_keeps, codef_leads, list_cells, next_find, placed_find}
 
@@ -96,9 +98,16 @@ module _ (i : ℕ) where
       lacking_node i Branch us (Node h (relisted adds c cells) rest) q.0 q.1 (lacking_node i h (relisted adds c cells) rest r.0 (lacking_relisted adds c cells e r.1) r.2)
   lacking_list adds c t e f = f
 
+-- it costs nothing
+codef_free : (s : Scene) (p : ℕ) (adds above : Bool) (to from : Tree) → IsFree (codef_row s p adds above to from)
+codef_free s p adds above to from =
+    free_unless (lists from (part_at s.game p)) 1 0 _
+    (free_unless (are_codefined above s.game from to) 2 0 _ (free_unless (may_relist adds to (part_at s.game p)) 3 0 _ (free_leads _)))
+
 pub codef_sound : (p : ℕ) (adds above : Bool) (to from : Tree) → IsSound (codef_step p adds above to from)
 codef_sound p adds above to from = record {
-  keeps = λ s next cost ready holds unreached knows e. let a = accepted s (codef_step p adds above to from) next cost e in codef_keeps s p adds above to from next cost ready a.stands a.row;
+  keeps = λ s next cost ready holds unreached knows e. let a = accepted s (codef_step p adds above to from) next cost e in kept_costs s.declarations s.game next cost (codef_keeps s p adds above to from next cost ready a.stands a.row);
+  taped = λ s next cost e i sat. free_taped _ (codef_free s p adds above to from) next cost (accepted s (codef_step p adds above to from) next cost e).row i;
   declared = λ s next cost w d e.
       let a = accepted s (codef_step p adds above to from) next cost e in
       let k = codef_leads s p adds above to from next cost a.row in

@@ -1,5 +1,5 @@
 -- An accepted `fresh` changes chances by no more than the copies of the choice in the size of its type.
-use Rattle.std.proofs.Common.{◌≡◌, ℕ, zero, suc, ◌+◌, ◌-◌, ◌*◌, ◌≤◌, ◌==◌, Bool, true, false, List, [], ◌∷◌, length, map, ◌⊎◌, inl, inr, Some, refl, sym, ap, subst, ◌∙◌, arith, eqb-true, eq-eqb}
+use Rattle.std.proofs.Common.{◌≡◌, ℕ, zero, suc, ◌+◌, ◌-◌, ◌*◌, ◌≤◌, ◌==◌, Bool, true, false, List, [], ◌∷◌, length, map, ◌⊎◌, inl, inr, Some, refl, sym, ap, ap₂, subst, ◌∙◌, arith, eqb-true, eq-eqb}
 use Rattle.std.proofs.lemmas.Bool.{both_ways, and_parts, or_left, or_parts}
 use Rattle.std.proofs.lemmas.List.{length-map}
 use Rattle.std.proofs.lemmas.List.Elements.{All-from_recursion}
@@ -46,9 +46,16 @@ use Rattle.cv_scene.specs.Scenes.{Scene, part_at}
 use Rattle.cv_scene.specs.Terms.{replications_at, replications_by}
 use Rattle.cv_steps.specs.Rewriting.{has_term_at}
 use Rattle.cv_steps.proofs.Testable.{local}
-use Rattle.cv_rule_fresh.specs.collisions.Chances.{CostsAtMost, copies, copies_over}
-use Rattle.cv_rule_fresh.specs.collisions.Choices.{Choice, is_in_scope, is_in_scope_by}
-use Rattle.cv_rule_fresh.specs.collisions.Fresh.{Leads, fresh_row}
+use Rattle.cv_steps.specs.Steps.{Cost, Leads}
+use Rattle.cv_bound_values.specs.Values.{product_value}
+use Rattle.cv_derive_laws.specs.stores.Costs.{CostsAtMost, bound_of}
+use Rattle.cv_costs.specs.Collisions.{declared_parameters, one_for_each}
+use Rattle.cv_costs.specs.Factors.{factors_of}
+use Rattle.cv_costs.proofs.Values.{with_value}
+use Rattle.cv_rule_fresh.specs.collisions.Chances.{copies}
+use Rattle.cv_rule_fresh.specs.collisions.Choices.{Choice, parameters_at}
+use Rattle.cv_rule_names.specs.Reach.{is_in_scope, is_in_scope_by}
+use Rattle.cv_rule_fresh.specs.collisions.Fresh.{fresh_row}
 use Rattle.cv_rule_fresh.proofs.Branches.{Guess}
 use Rattle.cv_rule_fresh.proofs.Hits.{IsFirst, firsts, value_at, value_ignores, value_when}
 use Rattle.cv_rule_fresh.proofs.Leads.{BySide, LeadsFresh, fresh_leads}
@@ -71,9 +78,26 @@ nothing_apart p q r e f = go p.all q.all e f
     go (suc a) b e f = absurd (omega arith)
     go zero (suc b) e f = absurd (omega arith)
 
+-- what one value for each copy is worth
+
+abbrev fraction_of : (good all : ℕ) → Chance
+fraction_of m n = record { good = m; all = n }
+
+product_copies : (order : List ℕ) (i : Interpretation) (ps : List ℕ) → product_value i (factors_of order ps) ≡ copies i ps
+unfolding copies
+product_copies order i [] = refl
+product_copies order i (p ∷ ps) = with_value order i p (factors_of order ps) ∙ ap (λ m. i.parameter_value p * m) (product_copies order i ps)
+
+worth : (i : Interpretation) (ds : List Declaration) (ps : List ℕ) (T : ℕ) → bound_of i (one_for_each ds ps T) ≡ fraction_of (copies i ps) (i.type_size T)
+worth i ds ps T =
+    let v = product_value i (factors_of (declared_parameters ds) ps) in
+    let good : 1 * v * 1 + 0 * i.type_size T ≡ v = omega arith in
+    let all : i.type_size T * 1 ≡ i.type_size T = omega arith in
+    ap₂ fraction_of (good ∙ product_copies (declared_parameters ds) i ps) all
+
 -- one side reads a variable, and the other is known before its choice
-module _ (s : Scene) (place : ℕ) (left right side other next : Tree) (ps : List ℕ) (T : ℕ) (w : IsWellFormed s.declarations s.game) (typed : IsTypedGame s.declarations s.game)
-    (part : part_at s.game place ≡ Node Eq left right) (stands : has_term_at Inputs s.game place ≡ true) (b : BySide s place side other next ps T)
+module _ (s : Scene) (place : ℕ) (left right side other next : Tree) (cost : Cost) (w : IsWellFormed s.declarations s.game) (typed : IsTypedGame s.declarations s.game)
+    (part : part_at s.game place ≡ Node Eq left right) (stands : has_term_at Inputs s.game place ≡ true) (b : BySide s place side other next cost)
     (compares : (g : Setting) (at : Indices) (m : Store) → value g at m (Node Eq left right) ≡ bit (value g at m side == value g at m other))
     (whole : is_oracle_phrase Term (Node Eq left right) ≡ true → is_oracle_phrase Term other ≡ true) (i : Interpretation) (e : Experiment) (a : Adversary) where
   abbrev ds : List Declaration
@@ -190,32 +214,35 @@ module _ (s : Scene) (place : ℕ) (left right side other next : Tree) (ps : Lis
   hits : AtMost (chance cs bad) (times (length (map hit copy_tuples)) (one_of (i.type_size c.type)))
   hits = chance_all cs (map hit copy_tuples) (one_of (i.type_size c.type)) (All-from_recursion (λ p. AtMost (chance cs p) (one_of (i.type_size c.type))) (map hit copy_tuples) (each_map_in (λ p. AtMost (chance cs p) (one_of (i.type_size c.type))) hit copy_tuples each_hit))
 
-  bound : times (length (map hit copy_tuples)) (one_of (i.type_size c.type)) ≡ copies_over ps T i
+  abbrev ps : List ℕ
+  ps = parameters_at s c.place
+
+  bound : times (length (map hit copy_tuples)) (one_of (i.type_size c.type)) ≡ bound_of i cost
   bound =
       let k : length (map hit copy_tuples) ≡ copies i ps =
-      length-map copy_tuples hit ∙ length_tuples i chosen.above.replications ∙ ap (copies i) (sym (ap (λ o. map (λ (r : ℕ × ℕ). r.1) (replications_by o)) chosen_known) ∙ b.parameters) in
+      length-map copy_tuples hit ∙ length_tuples i chosen.above.replications ∙ ap (copies i) (sym (ap (λ o. map (λ (r : ℕ × ℕ). r.1) (replications_by o)) chosen_known)) in
       let n : length (map hit copy_tuples) * 1 ≡ copies i ps = omega arith in
-      λ j. record { good = n j; all = i.type_size (b.type j) }
+      ap (λ m. fraction_of m (i.type_size c.type)) n ∙ (sym (worth i ds ps c.type) ∙ ap (bound_of i) b.priced)
 
-  costs : AtMost (distance (chance_of g e a game) (chance_of g e a next)) (copies_over ps T i)
+  costs : AtMost (distance (chance_of g e a game) (chance_of g e a next)) (bound_of i cost)
   unfolding chance_of
   costs =
       let there_chance : chance cs (holds_on g e a (replaced game place no)) ≡ chance_of g e a next =
       ap (λ ds. chance ds (holds_on g e a (replaced game place no))) (same_cells g (Holds g game place (Node Eq left right) x c other guess) game (replaced game place no) reworded m a) ∙ ap (chance_of g e a) b.leads in
-      subst (λ q. AtMost (distance (chance cs (holds_on g e a game)) q) (copies_over ps T i)) there_chance (subst (AtMost (distance (chance cs (holds_on g e a game)) (chance cs (holds_on g e a (replaced game place no))))) bound (go (total cs) refl))
+      subst (λ q. AtMost (distance (chance cs (holds_on g e a game)) q) (bound_of i cost)) there_chance (subst (AtMost (distance (chance cs (holds_on g e a game)) (chance cs (holds_on g e a (replaced game place no))))) bound (go (total cs) refl))
     where
       go : (n : ℕ) → total cs ≡ n → AtMost (distance (chance cs (holds_on g e a game)) (chance cs (holds_on g e a (replaced game place no)))) (times (length (map hit copy_tuples)) (one_of (i.type_size c.type)))
       go zero k = nothing_apart (chance cs (holds_on g e a game)) (chance cs (holds_on g e a (replaced game place no))) (times (length (map hit copy_tuples)) (one_of (i.type_size c.type))) k k
       go (suc n) k = at_most_trans (distance (chance cs (holds_on g e a game)) (chance cs (holds_on g e a (replaced game place no)))) (chance cs bad) (times (length (map hit copy_tuples)) (one_of (i.type_size c.type))) (omega arith) agree hits
 
-pub misses : (s : Scene) (place : ℕ) (next : Tree) (ps : List ℕ) (T : ℕ) → IsWellFormed s.declarations s.game → IsTypedGame s.declarations s.game → fresh_row s place ≡ Leads next ps T → CostsAtMost s.declarations s.game next (copies_over ps T)
+pub misses : (s : Scene) (place : ℕ) (next : Tree) (cost : Cost) → IsWellFormed s.declarations s.game → IsTypedGame s.declarations s.game → fresh_row s place ≡ Leads next cost → CostsAtMost s.declarations s.game next cost
 unfolding value is_oracle_phrase
-misses s place next ps T w typed e i sat y asked a = go (fresh_leads s place next ps T e)
+misses s place next cost w typed e i sat y asked a = go (fresh_leads s place next cost e)
   where
-    go : LeadsFresh s place next ps T → AtMost (distance (chance_of (setting_of s.declarations i) y a s.game) (chance_of (setting_of s.declarations i) y a next)) (copies_over ps T i)
+    go : LeadsFresh s place next cost → AtMost (distance (chance_of (setting_of s.declarations i) y a s.game) (chance_of (setting_of s.declarations i) y a next)) (bound_of i cost)
     go r = by r.by
       where
-        by : BySide s place r.left r.right next ps T ⊎ BySide s place r.right r.left next ps T → AtMost (distance (chance_of (setting_of s.declarations i) y a s.game) (chance_of (setting_of s.declarations i) y a next)) (copies_over ps T i)
-        by (inl b) = costs s place r.left r.right r.left r.right next ps T w typed r.part r.stands b (λ g at m. refl) (λ k. (and_parts (is_oracle_phrase Term r.left) _ k).1) i y a
+        by : BySide s place r.left r.right next cost ⊎ BySide s place r.right r.left next cost → AtMost (distance (chance_of (setting_of s.declarations i) y a s.game) (chance_of (setting_of s.declarations i) y a next)) (bound_of i cost)
+        by (inl b) = costs s place r.left r.right r.left r.right next cost w typed r.part r.stands b (λ g at m. refl) (λ k. (and_parts (is_oracle_phrase Term r.left) _ k).1) i y a
         by (inr b) =
-            costs s place r.left r.right r.right r.left next ps T w typed r.part r.stands b (λ g at m. ap bit (equals_comm (value g at m r.left) (value g at m r.right))) (λ k. (and_parts (is_oracle_phrase Term r.left) _ k).0) i y a
+            costs s place r.left r.right r.right r.left next cost w typed r.part r.stands b (λ g at m. ap bit (equals_comm (value g at m r.left) (value g at m r.right))) (λ k. (and_parts (is_oracle_phrase Term r.left) _ k).0) i y a

@@ -9,3 +9,7 @@ pub mod Values
 pub mod Branches
 pub mod Reworded
 pub mod Keeping
+pub mod Sound
+mod Ways
+mod Seeing
+mod Planned

@@ -1,12 +1,12 @@
-// Equalities of a value that is chosen at random with a term that was known before: when the step `fresh` takes one to be false,
-// and what it costs, as definitions in `specs/`. The law stands in a crate above.
+// Small games in which the step `fresh` takes an equality to be false.
 
-ghost use Rattle.std.specs.Prelude.{◌≡◌, [], ◌∷◌};
+ghost use Rattle.std.specs.Prelude.{◌≡◌};
 ghost use Rattle.std.specs.List.{AllByRecursion};
 ghost use Rattle.cv_meaning.specs.Chances.{Same, distance};
 ghost use Rattle.cv_scope_rules.specs.Phrases.{IsWellFormed};
-ghost use Rattle.cv_rule_fresh.specs.collisions.Chances.{copies_over};
-ghost use Rattle.cv_rule_fresh.specs.collisions.Fresh.{Leads, fresh_row};
+ghost use Rattle.cv_steps.specs.Steps.{Leads};
+ghost use Rattle.cv_derive_laws.specs.stores.Costs.{bound_of};
+ghost use Rattle.cv_rule_fresh.specs.collisions.Fresh.{fresh_row};
 ghost use Rattle.cv_rule_fresh.specs.collisions.Worked.{
   cases,
   chance_in,
@@ -15,6 +15,7 @@ ghost use Rattle.cv_rule_fresh.specs.collisions.Worked.{
   guessed,
   guesses,
   not_guessed,
+  one_of_many,
   scene_of,
   three_values,
 };
@@ -29,7 +30,7 @@ pub fn worked_rows()
 /// In a game with one copy and a type of three values the cost is reached: an adversary that sends a guess of the nonce
 /// makes an event happen on one tape of three, and in the next game on none.
 pub fn worked_costs()
-    ensures row { fresh_row (scene_of guessed) 4 ≡ Leads not_guessed (2 ∷ []) 5 }
+    ensures row { fresh_row (scene_of guessed) 4 ≡ Leads not_guessed one_of_many }
     ensures reached { Same (distance (chance_in guessed) (chance_in not_guessed))
-        (copies_over (2 ∷ []) 5 three_values) }
+        (bound_of three_values one_of_many) }
 {}

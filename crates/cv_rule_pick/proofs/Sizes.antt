@@ -15,7 +15,7 @@ use Rattle.cv_path.proofs.extents.Extents.{size_part}
 use Rattle.cv_scene.specs.Scenes.{Scene, or_empty, part_at}
 use Rattle.cv_scene.specs.Terms.{is_sort, is_term_at}
 use Rattle.cv_steps.specs.Rewriting.{sort_at}
-use Rattle.cv_rule_fresh.specs.collisions.Choices.{is_in_scope, is_in_scope_at, is_in_scope_by}
+use Rattle.cv_rule_names.specs.Reach.{is_in_scope, is_in_scope_at, is_in_scope_by}
 use Rattle.cv_rule_pick.specs.Picking.{Arm, are_indices_at, are_terms_at, only_arm, term_of, with_terms}
 use Rattle.cv_rule_pick.proofs.Small.{cell_size, reached_small}
 use Rattle.cv_syntax_trees.specs.Tree.{subtree}

@@ -14,7 +14,7 @@ use Rattle.cv_scene.specs.Scenes.{Scene, part_at}
 use Rattle.cv_scene.specs.Sights.{variable_of}
 use Rattle.cv_scene.specs.Terms.{is_sort, is_term_at, replications_at}
 use Rattle.cv_steps.specs.Rewriting.{sort_at}
-use Rattle.cv_rule_fresh.specs.collisions.Choices.{is_in_scope_at}
+use Rattle.cv_rule_names.specs.Reach.{is_in_scope_at}
 use Rattle.cv_rule_names.specs.Naming.{is_between}
 
 -- the only branch of a `find`

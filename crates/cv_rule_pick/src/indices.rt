@@ -13,7 +13,7 @@ ghost use Rattle.cv_typing_rules.specs.Signature.{OfGame};
 ghost use Rattle.cv_scene.specs.Terms.{is_sort, replications_at};
 ghost use Rattle.cv_scene_view.specs.Kept.{scene_of};
 ghost use Rattle.cv_steps.specs.Rewriting.{sort_at};
-ghost use Rattle.cv_rule_fresh.specs.collisions.Choices.{is_in_scope_at};
+ghost use Rattle.cv_rule_names.specs.Reach.{is_in_scope_at};
 ghost use Rattle.cv_rule_pick.specs.Picking as picking;
 
 use crate::scope::is_in_scope;

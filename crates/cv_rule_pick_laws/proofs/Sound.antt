@@ -1,5 +1,5 @@
 -- What the step keeps.
-use Rattle.std.proofs.Common.{◌≡◌, ℕ, true, false, List, Option, Some, None, refl, sym, ap, subst}
+use Rattle.std.proofs.Common.{◌≡◌, ℕ, true, false, not, List, Option, Some, None, refl, sym, ap, subst}
 use Rattle.std.proofs.lemmas.Bool.{both_ways, and_parts}
 use Rattle.std.specs.List.{AllByRecursion}
 use Rattle.cv_syntax_trees.specs.declared.head.Head.{Head}
@@ -10,12 +10,15 @@ use Rattle.cv_meaning.specs.Replaced.{is_output}
 use Rattle.cv_meaning_chances.specs.values.Values.{HasValuesIn}
 use Rattle.cv_typing_runs.specs.Games.{HasDeclaredSorts}
 use Rattle.cv_scope_rules.specs.Phrases.{Phrase, Arm as OfArm, Binders, Body, Guards, Inputs, Pattern, Term, is_phrase, parts}
+use Rattle.cv_scene.specs.Derivations.{first_bad_line}
 use Rattle.cv_scene.specs.Scenes.{Scene, has_place, part_at}
+use Rattle.cv_scene.specs.Sights.{sight_at}
 use Rattle.cv_scene.specs.Terms.{is_term_at, replications_at}
 use Rattle.cv_steps.specs.Steps.{Cost}
 use Rattle.cv_steps.specs.Judgements.{Accepted, judgement_of}
 use Rattle.cv_steps.proofs.Comes.{placed}
 use Rattle.cv_steps.proofs.Flat.{open_phrase}
+use Rattle.cv_steps.proofs.Rows.{IsFree, free_fails, free_leads, free_unless, free_unless_at}
 use Rattle.cv_steps_laws.proofs.chances.Phrases.{find_parts, phrase_there}
 use Rattle.cv_steps_laws.proofs.Declared.{declared_there}
 use Rattle.cv_steps_laws.proofs.Indices.{Lacks, bound_before, lacking_changed, lacking_empty, lacking_node, lacking_parts, lacking_term}
@@ -23,9 +26,13 @@ use Rattle.cv_steps_laws.proofs.Keeping.{accepted, next_formed}
 use Rattle.cv_steps_laws.proofs.Sorts.{sorts_kept}
 use Rattle.cv_steps_laws.proofs.Unletted.{IsKept, has_names, is_bare}
 use Rattle.cv_steps_laws.proofs.Values.{values_changed, values_kept}
+use Rattle.cv_derive_rules.specs.Ends.{ends_with}
+use Rattle.cv_derive_laws.proofs.stores.Costs.{free_taped, kept_costs}
 use Rattle.cv_derive_laws.specs.stores.Steps.{IsSound}
-use Rattle.cv_rule_pick.specs.Picking.{own_cells, term_of, with_terms}
-use Rattle.cv_rule_pick.specs.Row.{pick_step}
+use Rattle.cv_rule_names.specs.Naming.{is_one_queried}
+use Rattle.cv_scope_rules.specs.Made.{is_own_at}
+use Rattle.cv_rule_pick.specs.Picking.{Arm as OnlyArm, are_indices_at, body_place, equations, guards_with, only_arm, own_cells, term_of, with_terms}
+use Rattle.cv_rule_pick.specs.Row.{first_other, first_unfit, pick_row_by, pick_step}
 use Rattle.cv_rule_pick_laws.proofs.Equal.{HasFacts}
 use Rattle.cv_rule_pick_laws.proofs.Keeping.{pick_keeps}
 use Rattle.cv_rule_pick_laws.proofs.Picks.{AllTerms, IsFind, IsPick, arm_phrases, both_from, branches_tree, find_of, guards_tree, pick_leads, terms_typed, terms_weaker}
@@ -132,12 +139,25 @@ body_lacks i s p ms d e next z l =
     let body = (lacking_parts i Cons a.condition a.body guarded).2 in
     lacking_with i (own_cells s p a) ms (cells_read (replications_at s p) (bound_names a.binders)) (phrases_of s p ms z.terms) a.body body
 
+-- the step costs nothing
+pick_free : (s : Scene) (p : ℕ) (ms d e : Tree) (a : Option OnlyArm) → IsFree (pick_row_by s p ms d e a)
+pick_free s p ms d e None = free_fails 1 0
+pick_free s p ms d e (Some a) =
+    free_unless (are_indices_at s p a.binders ms) 1 0 _
+    (free_unless_at 2 (first_unfit s (body_place p a) d) _
+    (free_unless (ends_with d (equations (own_cells s p a) ms)) 3 0 _
+    (free_unless_at 4 (first_bad_line (sight_at s p) e) _
+    (free_unless (ends_with e (guards_with (own_cells s p a) ms a)) 5 0 _
+    (free_unless (not (is_one_queried s (is_own_at (part_at s.game p)))) 6 0 _
+    (free_unless_at 6 (first_other s p a) _ (free_leads _)))))))
+
 pub pick_sound : HasFacts → (p : ℕ) (ms d e : Tree) → IsSound (pick_step p ms d e)
 unfolding HasDeclaredSorts HasValuesIn
 pick_sound facts p ms d e = record {
   keeps = λ s next cost ready holds unreached knows r.
       let z = taken s p ms d e next cost r in
-      pick_keeps s p ms d e next ready holds facts (next_formed s (pick_step p ms d e) next cost r).phrase z.terms z.pick;
+      kept_costs s.declarations s.game next cost (pick_keeps s p ms d e next ready holds facts (next_formed s (pick_step p ms d e) next cost r).phrase z.terms z.pick);
+  taped = λ s next cost r i sat. free_taped _ (pick_free s p ms d e (only_arm (part_at s.game p))) next cost (accepted s (pick_step p ms d e) next cost r).row i;
   declared = λ s next cost w f r.
       let z = taken s p ms d e next cost r in
       subst (HasDeclaredSorts s.declarations) z.pick.leads

@@ -33,7 +33,7 @@ use Rattle.cv_steps.specs.Judgements.{Accepted, Judgement, Refused, judgement_of
 use Rattle.cv_steps_laws.specs.Worked.{copies, copy_of, sends_copy}
 use Rattle.cv_derive_laws.specs.late.Lasting.{first_late}
 use Rattle.cv_derive_laws.specs.worked.Worked.{is_there, line, one}
-use Rattle.cv_rule_fresh.specs.collisions.Choices.{is_in_scope}
+use Rattle.cv_rule_names.specs.Reach.{is_in_scope}
 use Rattle.cv_rule_names.specs.Naming.{first_naming}
 use Rattle.cv_rule_pick.specs.Picking.{first_listed, with_terms}
 use Rattle.cv_rule_pick_laws.specs.Worked.{at_body, at_find, copies_of, copies_with, both_at_body, both_at_find, found, found_both, found_two, late_at_body, lists_itself, nowhere_at_body, nowhere_at_find, own, pick, picks, same, sends_found, sends_unseen, tests, yields}

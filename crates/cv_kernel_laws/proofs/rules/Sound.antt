@@ -5,6 +5,7 @@ use Rattle.cv_script.specs.Views as items
 use Rattle.cv_derive_laws.specs.stores.Steps.{IsSound}
 use Rattle.cv_rule_array_names_laws.proofs.Sound.{array_names_sound}
 use Rattle.cv_rule_codef.proofs.Sound.{codef_sound}
+use Rattle.cv_rule_fresh.proofs.Sound.{fresh_sound}
 use Rattle.cv_rule_merge.proofs.Sound.{merge_sound}
 use Rattle.cv_rule_move.proofs.Sound.{move_sound}
 use Rattle.cv_rule_array_names.specs.Sites.{listed_names}
@@ -29,4 +30,5 @@ sound (items.Merge p) r e = that _ r e (merge_sound p)
 sound (items.Codef p adds to from above) r e = that _ r e (codef_sound p adds above to from)
 sound (items.ArrayRename x to) r e = that _ r e (array_names_sound x (listed_names to))
 sound (items.Pick p ms d f) r e = that _ r e (picked_sound p ms d f)
+sound (items.Fresh p) r e = that _ r e (fresh_sound p)
 sound i r e = absurd (cc)

@@ -4,7 +4,7 @@ use Rattle.std.specs.Fmt.{decimal}
 use Rattle.cv_print.specs.Terms.{name_text}
 use Rattle.cv_bound.specs.Texts.{joined_by, product_text}
 use Rattle.cv_context.specs.products.Shapes.{Shape}
-use Rattle.cv_report.specs.contexts.Factors.{factors_of}
+use Rattle.cv_costs.specs.Factors.{factors_of}
 
 abbrev pub parameters_text : List (List ℕ) → (order : List ℕ) → List ℕ → List ℕ
 parameters_text names order ns = product_text names (factors_of order ns)

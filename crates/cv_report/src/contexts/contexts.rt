@@ -5,8 +5,8 @@ ghost use Rattle.cv_context.specs.products.ShapesInCode.{calls_in, shape_in};
 ghost use Rattle.cv_bound.specs.Texts.{joined_by, power_text, product_text};
 ghost use Rattle.cv_report.specs.contexts.Contexts.{calls_text, context_text, parameters_text, sites_text};
 
-use crate::contexts::products::factors_of;
 use cv_context::products::{Calls, Shape};
+use cv_costs::factors_of;
 use cv_print::{push_decimal, push_name};
 use cv_syntax::{NameId, Names};
 use std::alloc::AllocError;

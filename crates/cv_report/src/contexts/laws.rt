@@ -1,18 +1,6 @@
-ghost use Rattle.std.specs.Prelude.{◌≡◌, ℕ, ◌*◌, List, [], ◌∷◌, Some, codes};
-ghost use Rattle.cv_meaning.specs.Interpretation.{Interpretation};
-ghost use Rattle.cv_bound_values.specs.Values.{product_value};
+ghost use Rattle.std.specs.Prelude.{◌≡◌, [], ◌∷◌, Some, codes};
 ghost use Rattle.cv_report.specs.contexts.Contexts.{context_text};
-ghost use Rattle.cv_report.specs.contexts.Factors.{factors_of};
 ghost use Rattle.cv_report.specs.contexts.Worked.{checks, names, sessions};
-
-/// The factors of parameters have the value of their product, in whatever order the parameters are declared.
-pub fn factors_have_the_value()
-    ensures none { (order : List ℕ) (i : Interpretation) →
-        product_value i (factors_of order []) ≡ 1 }
-    ensures more { (order : List ℕ) (i : Interpretation) (n : ℕ) (ns : List ℕ) →
-        product_value i (factors_of order (n ∷ ns))
-        ≡ i.parameter_value n * product_value i (factors_of order ns) }
-{}
 
 /// Worked lines of contexts: a function without sites has `0`, a place below no replication `1`, and a parameter that stands
 /// above a place more than once its exponent; parameters stand in the order of their declarations, whatever their numbers.

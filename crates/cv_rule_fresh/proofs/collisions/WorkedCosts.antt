@@ -18,12 +18,15 @@ use Rattle.cv_meaning.specs.Replaced.{replaced}
 use Rattle.cv_directory_sorts.specs.Sites.{bound_sort, first_site, is_untyped_in}
 use Rattle.cv_scope_rules.specs.Context.{context_at}
 use Rattle.cv_steps.specs.Rewriting.{has_term_at}
-use Rattle.cv_rule_fresh.specs.collisions.Chances.{copies, copies_over}
-use Rattle.cv_rule_fresh.specs.collisions.Choices.{choice_in, is_in_scope}
-use Rattle.cv_rule_fresh.specs.collisions.Fresh.{Leads, fresh_row}
-use Rattle.cv_rule_fresh.specs.collisions.Worked.{chance_in, guessed, not_guessed, scene_of, three_values}
+use Rattle.cv_steps.specs.Steps.{Leads}
+use Rattle.cv_derive_laws.specs.stores.Costs.{bound_of}
+use Rattle.cv_costs.specs.Factors.{with_parameter}
+use Rattle.cv_rule_fresh.specs.collisions.Choices.{choice_in}
+use Rattle.cv_rule_names.specs.Reach.{is_in_scope}
+use Rattle.cv_rule_fresh.specs.collisions.Fresh.{fresh_row}
+use Rattle.cv_rule_fresh.specs.collisions.Worked.{chance_in, guessed, not_guessed, one_of_many, scene_of, three_values}
 
-pub row : fresh_row (scene_of guessed) 4 ≡ Leads not_guessed (2 ∷ []) 5
+pub row : fresh_row (scene_of guessed) 4 ≡ Leads not_guessed one_of_many
 unfolding same_tree size subtree replaced first_site bound_sort is_untyped_in context_at has_term_at choice_in is_in_scope
 row = refl
 
@@ -35,8 +38,8 @@ after : chance_in not_guessed ≡ record { good = 0; all = 3 }
 unfolding size reads_only written sum_below count total put value values bound_to tuples_up_to candidates_at candidates chosen inputs_of step serve taken moved run_from tuples_below at_each_copy cells run holds_on assignments positions ways can_match broken chance_of
 after = refl
 
-pub reached : Same (distance (chance_in guessed) (chance_in not_guessed)) (copies_over (2 ∷ []) 5 three_values)
-unfolding copies
+pub reached : Same (distance (chance_in guessed) (chance_in not_guessed)) (bound_of three_values one_of_many)
+unfolding with_parameter
 reached =
-    subst (λ p. Same (distance p (chance_in not_guessed)) (copies_over (2 ∷ []) 5 three_values)) (sym before)
-    (subst (λ p. Same (distance (record { good = 1; all = 3 }) p) (copies_over (2 ∷ []) 5 three_values)) (sym after) refl)
+    subst (λ p. Same (distance p (chance_in not_guessed)) (bound_of three_values one_of_many)) (sym before)
+    (subst (λ p. Same (distance (record { good = 1; all = 3 }) p) (bound_of three_values one_of_many)) (sym after) refl)

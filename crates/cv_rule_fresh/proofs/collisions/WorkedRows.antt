@@ -13,7 +13,8 @@ use Rattle.cv_scope_rules.specs.Sites.{sites_from}
 use Rattle.cv_scope_rules.specs.Standing.{at_root}
 use Rattle.cv_scope_rules.proofs.First.{scoped_where_none}
 use Rattle.cv_steps.specs.Rewriting.{has_term_at}
-use Rattle.cv_rule_fresh.specs.collisions.Choices.{choice_in, is_in_scope}
+use Rattle.cv_rule_fresh.specs.collisions.Choices.{choice_in}
+use Rattle.cv_rule_names.specs.Reach.{is_in_scope}
 use Rattle.cv_rule_fresh.specs.collisions.Fresh.{fresh_row}
 use Rattle.cv_rule_fresh.specs.collisions.Worked.{cases, current, declared, guesses}
 

@@ -47,20 +47,6 @@ is_large_by d = false
 abbrev pub is_large : Scene → (type : ℕ) → Bool
 is_large s T = is_large_by (declaration_of s.declarations T)
 
--- A term is in scope where each name that it reads is a current index, a constant, or a cell in reach.
-
-unfoldable pub is_in_scope : Names → Context → Tree → Bool
-is_in_scope names Γ Empty = true
-is_in_scope names Γ (Node h a b) = reads_in_reach names Γ h a b && (is_in_scope names Γ a && is_in_scope names Γ b)
-
-abbrev pub is_in_scope_by : Names → Option Context → Tree → Bool
-is_in_scope_by names None m = false
-is_in_scope_by names (Some Γ) m = is_in_scope names Γ m
-
--- before the construct at a place
-abbrev pub is_in_scope_at : Scene → (place : ℕ) → (term : Tree) → Bool
-is_in_scope_at s p m = is_in_scope_by (names_of s.declarations s.game) (known_at s.game p) m
-
 -- the parameters of the replications above a place, from the outermost on
 abbrev pub parameters_at : Scene → (place : ℕ) → List ℕ
 parameters_at s p = map (λ (r : ℕ × ℕ). r.1) (replications_at s p)

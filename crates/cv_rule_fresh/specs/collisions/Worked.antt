@@ -15,7 +15,8 @@ use Rattle.cv_meaning_laws.specs.Worked.{adversary, never_query, sized}
 use Rattle.cv_meaning_runs.specs.Replacement.{if_tree}
 use Rattle.cv_derive_rules.specs.Truths.{no}
 use Rattle.cv_scene.specs.Scenes.{Scene}
-use Rattle.cv_rule_fresh.specs.collisions.Fresh.{Fails, FreshRow, Leads}
+use Rattle.cv_steps.specs.Steps.{Cost, Fails, Leads, Row}
+use Rattle.cv_costs.specs.Collisions.{one_for_each}
 
 -- type 0 [fixed]. type 5 [large]. type 6 [fixed]. param 2.
 abbrev pub declared : List Declaration
@@ -54,17 +55,21 @@ compares_copy = copies 5 (Node (Let 8 5) (current 4) (tests (Node Eq (current 4)
 abbrev pub guesses_later : Tree
 guesses_later = input 3 [] [] (Node (New 4 5) Empty (output 3 [] [] (input 7 [] ((9, 5) ∷ []) (tests (Node Eq (leaf 4) (leaf 9))))))
 
-abbrev pub case_of : (game : Tree) → (place : ℕ) → FreshRow → Scene × ℕ × FreshRow
+-- one of five's values for each copy below the replication
+abbrev pub one_of_many : Cost
+one_of_many = one_for_each declared (2 ∷ []) 5
+
+abbrev pub case_of : (game : Tree) → (place : ℕ) → Row → Scene × ℕ × Row
 case_of game p row = (scene_of game, p, row)
 
-abbrev pub cases : List (Scene × ℕ × FreshRow)
+abbrev pub cases : List (Scene × ℕ × Row)
 cases =
-    case_of (guesses 5 (current 4) (current 9)) 4 (Leads (copies 5 (tests no)) (2 ∷ []) 5)
-    ∷ case_of (guesses 5 (current 9) (current 4)) 4 (Leads (copies 5 (tests no)) (2 ∷ []) 5)
-    ∷ case_of (finds (Node Eq (current 4) (current 9))) 5 (Leads (finds no) (2 ∷ []) 5)
+    case_of (guesses 5 (current 4) (current 9)) 4 (Leads (copies 5 (tests no)) one_of_many)
+    ∷ case_of (guesses 5 (current 9) (current 4)) 4 (Leads (copies 5 (tests no)) one_of_many)
+    ∷ case_of (finds (Node Eq (current 4) (current 9))) 5 (Leads (finds no) one_of_many)
     -- no equality; no side that reads a variable; one that is not chosen; another type; a choice before an input
-    ∷ case_of (guesses 5 (current 4) (current 9)) 3 (Fails 1 3)
-    ∷ case_of (guesses 5 (lone Yes) (lone Yes)) 4 (Fails 1 4)
+    ∷ case_of (guesses 5 (current 4) (current 9)) 3 (Fails 1 0)
+    ∷ case_of (guesses 5 (lone Yes) (lone Yes)) 4 (Fails 1 0)
     ∷ case_of (guesses 5 (current 9) (lone Yes)) 4 (Fails 2 0)
     ∷ case_of (guesses 6 (current 4) (current 9)) 4 (Fails 2 0)
     ∷ case_of guesses_later 5 (Fails 2 0)

@@ -23,7 +23,7 @@ built_script_row = 159
 
 -- how many of the steps, from the first one on, have a rule
 abbrev pub steps_with_a_rule : ℕ
-steps_with_a_rule = 16
+steps_with_a_rule = 17
 
 abbrev pub script_rows : Table
 script_rows =
@@ -177,9 +177,9 @@ script_rows =
     (Over head.ArrayRenameStep 126 ∷ []) ∷  -- 147 a array rename
     (Over head.SimplifyStep 133 ∷ []) ∷  -- 148 a simplify
     (Over head.PickStep 118 ∷ []) ∷  -- 149 a pick
-    (Over head.BirthdayStep 128 ∷ []) ∷  -- 150 a birthday
-    (Over head.GuessStep 129 ∷ []) ∷  -- 151 a guess
-    (Over head.FreshStep 130 ∷ []) ∷  -- 152 a fresh
+    (Over head.FreshStep 130 ∷ []) ∷  -- 150 a fresh
+    (Over head.BirthdayStep 128 ∷ []) ∷  -- 151 a birthday
+    (Over head.GuessStep 129 ∷ []) ∷  -- 152 a guess
     (OneOf 134 19 ∷ []) ∷  -- 153 step
     (OneOf 134 19 ∷ Sign mark.Semicolon ∷ []) ∷  -- 154 step item
     (Many false 154 ∷ []) ∷  -- 155 steps

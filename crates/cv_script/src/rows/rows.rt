@@ -232,7 +232,7 @@ const BUILT_STEPS: u16 = 158;
 /// The row of a script whose steps have a rule.
 pub const BUILT_SCRIPT: u16 = 159;
 /// How many of the steps, from the first one on, have a rule.
-const BUILT: u16 = 16;
+const BUILT: u16 = 17;
 /// How many rows the table has.
 const ROWS: usize = 160;
 
@@ -614,9 +614,9 @@ static STEP_ROWS: [&[Piece]; 45] = [
     &[Over(Head::ArrayRenameStep, ARRAY_RENAME)],
     &[Over(Head::SimplifyStep, SIMPLIFY)],
     &[Over(Head::PickStep, PICK)],
+    &[Over(Head::FreshStep, FRESH)],
     &[Over(Head::BirthdayStep, BIRTHDAY)],
     &[Over(Head::GuessStep, GUESS)],
-    &[Over(Head::FreshStep, FRESH)],
     &[OneOf(FIRST_STEP, 19)],
     &[OneOf(FIRST_STEP, 19), Sign(Mark::Semicolon)],
     &[Many(false, STEP_ITEM)],

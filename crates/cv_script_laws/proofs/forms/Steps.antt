@@ -267,8 +267,8 @@ guesses l d =
     let x = take (skip (skip d)) in
     with_first is_any head.GuessStep x (has (Guess x.first.0 (single x.rest)) (bound (λ y. Some (Guess y (single x.rest))) (name_is x.first) refl) refl)
 
-freshes : (l : List Tree) → Made 130 l → HasItems is_any (over head.FreshStep l)
-freshes l d = let p = last (skip (skip d)) in with_one is_any head.FreshStep p (has (Fresh p.first.0) (bound (λ v. Some (Fresh v)) (number_is p.first) refl) refl)
+freshes : (l : List Tree) → Made 130 l → HasItems is_built (over head.FreshStep l)
+freshes l d = let p = last (skip (skip d)) in with_one is_built head.FreshStep p (has (Fresh p.first.0) (bound (λ v. Some (Fresh v)) (number_is p.first) refl) refl)
 
 cryptos : (l : List Tree) → Made 131 l → HasItems is_built (over head.CryptoStep l)
 cryptos l d =
@@ -324,13 +324,13 @@ rows_with_a_rule =
     ∷ record { row = 147; makes = a_step is_built head.ArrayRenameStep 147 126 refl array_renames }
     ∷ record { row = 148; makes = a_step is_built head.SimplifyStep 148 133 refl simplifies }
     ∷ record { row = 149; makes = a_step is_built head.PickStep 149 118 refl picks }
+    ∷ record { row = 150; makes = a_step is_built head.FreshStep 150 130 refl freshes }
     ∷ []
 
 abbrev later_rows : List (StepRow is_any)
 later_rows =
-    record { row = 150; makes = a_step is_any head.BirthdayStep 150 128 refl birthdays }
-    ∷ record { row = 151; makes = a_step is_any head.GuessStep 151 129 refl guesses }
-    ∷ record { row = 152; makes = a_step is_any head.FreshStep 152 130 refl freshes }
+    record { row = 151; makes = a_step is_any head.BirthdayStep 151 128 refl birthdays }
+    ∷ record { row = 152; makes = a_step is_any head.GuessStep 152 129 refl guesses }
     ∷ []
 
 abbrev any_row : StepRow is_built → StepRow is_any

@@ -9,9 +9,11 @@ use Rattle.cv_syntax.specs.declared.work.Game.{Game}
 use Rattle.cv_script_reader.specs.Scripts.{trees_of}
 use Rattle.cv_scope_rules.specs.Phrases.{IsWellFormed}
 use Rattle.cv_bound.specs.costs.Sums.{SumsFit}
+use Rattle.cv_bound.specs.declared.costs.sums.Sums.{Sums}
 use Rattle.cv_bound.specs.closings.Queries.{first_unclosed, numbers_of, sum_in}
 use Rattle.cv_report.specs.verdicts.Verdicts.{ended_with, verdicts_by}
 use Rattle.cv_kernel.specs.Drawings.{DrawsAlong}
+use Rattle.cv_kernel.specs.Sequences.{AreModest}
 use Rattle.cv_follow.specs.Scripts.{entry_in, known_to, led}
 use Rattle.cv_follow.specs.Walks.{stop_of}
 use Rattle.cv_follow.proofs.Drawing.{drawn_next}
@@ -37,6 +39,7 @@ steps-init c =
         formed = subst (IsWellFormed (declarations trees work.decls.list)) (sym same) c.requires.formed;
         arrays = on_none _ _ c.start-sequence.ensures.arrays;
         fits = subst SumsFit (sym c.start-sequence.ensures.sum) (tt, tt);
+        modest = subst (λ (q : Sums). AreModest q s.steps) (sym c.start-sequence.ensures.sum) (omega arith);
         few = (let n = c.start-sequence.ensures.steps in omega arith);
       };
       grows = Grows_refl work.pool;

@@ -5,7 +5,7 @@ use Rattle.cv_rule.proofs.Leading.{let_stands_not}
 use Rattle.cv_edit_places.specs.declared.change.Change.TheVariants as change
 use Rattle.cv_edit.specs.declared.edit.Edit.TheVariants as edit
 use Rattle.cv_script.specs.Views as items
-use Rattle.cv_kernel.specs.Answers.{IsPlan}
+use Rattle.cv_kernel.specs.Answers.{IsEditPlan}
 use Rattle.cv_kernel.specs.Rules.{rule_of_items}
 use Rattle.cv_kernel.proofs.Nodes.{size_nodes}
 use Rattle.cv_kernel.proofs.Planned.{let_edit, plan_by, unplaced}
@@ -30,5 +30,5 @@ returns c =
     let T = c.args.of_type in
     let m = c.args.term in
     let p = c.in_ok-place.place in
-    subst (λ q. IsPlan pool.trees s (rule_of_items (items.Let q x T (tree_at pool.trees (Some m)))) c.tested.result) c.in_ok-place.ensures.place
+    subst (λ q. IsEditPlan pool.trees s (rule_of_items (items.Let q x T (tree_at pool.trees (Some m)))) c.tested.result) c.in_ok-place.ensures.place
     (plan_by pool.trees s _ (edit.At p (change.AfterLet x T m)) c.tested.result c.tested.ensures.same c.tested.ensures.met c.tested.ensures.unmet (let_edit pool.trees s c.requires.small p x T m c.requires.live c.requires.short))

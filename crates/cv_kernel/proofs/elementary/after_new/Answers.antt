@@ -4,7 +4,7 @@ use Rattle.cv_rule.proofs.Leading.{new_stands_not}
 use Rattle.cv_edit_places.specs.declared.change.Change.TheVariants as change
 use Rattle.cv_edit.specs.declared.edit.Edit.TheVariants as edit
 use Rattle.cv_script.specs.Views as items
-use Rattle.cv_kernel.specs.Answers.{IsPlan}
+use Rattle.cv_kernel.specs.Answers.{IsEditPlan}
 use Rattle.cv_kernel.specs.Rules.{rule_of_items}
 use Rattle.cv_kernel.proofs.Planned.{new_edit, plan_by, unplaced}
 use Rattle.cv_kernel.proofs.elementary.after_new.Goals as goal
@@ -22,5 +22,5 @@ returns c =
     let x = c.args.name in
     let T = c.args.of_type in
     let p = c.in_ok-place.place in
-    subst (λ q. IsPlan pool.trees s (rule_of_items (items.New q x T)) c.tested.result) c.in_ok-place.ensures.place
+    subst (λ q. IsEditPlan pool.trees s (rule_of_items (items.New q x T)) c.tested.result) c.in_ok-place.ensures.place
     (plan_by pool.trees s _ (edit.At p (change.AfterNew x T)) c.tested.result c.tested.ensures.same c.tested.ensures.met c.tested.ensures.unmet (new_edit pool.trees s c.requires.small p x T))

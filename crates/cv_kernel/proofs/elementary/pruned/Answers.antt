@@ -5,7 +5,7 @@ use Rattle.cv_rule.proofs.Leading.{prune_stands_not}
 use Rattle.cv_edit_changes.specs.pruning.Bodies.{need_of}
 use Rattle.cv_edit.specs.declared.edit.Edit.TheVariants as edit
 use Rattle.cv_steps.specs.Elementary.{prune_step}
-use Rattle.cv_kernel.specs.Answers.{IsPlan}
+use Rattle.cv_kernel.specs.Answers.{IsEditPlan}
 use Rattle.cv_kernel.specs.Rules.{part_of}
 use Rattle.cv_kernel.proofs.Nodes.{lines_nodes}
 use Rattle.cv_kernel.proofs.Planned.{plan_by, prune_edit, unplaced}
@@ -28,6 +28,6 @@ returns c =
     let s = scene_of pool c.args.work.now.decls c.args.game in
     let by = tree_at pool.trees c.args.by in
     let p = c.in_ok-place.place in
-    subst (λ q. IsPlan pool.trees s (Some (record { step = prune_step q (part_of c.args.part) by; need = λ game. need_of game q (part_of c.args.part) })) c.tested.result) c.in_ok-place.ensures.place
-    (subst (λ part. IsPlan pool.trees s (Some (record { step = prune_step p part by; need = λ game. need_of game p part })) c.tested.result) c.body_of-body.ensures
+    subst (λ q. IsEditPlan pool.trees s (Some (record { step = prune_step q (part_of c.args.part) by; need = λ game. need_of game q (part_of c.args.part) })) c.tested.result) c.in_ok-place.ensures.place
+    (subst (λ part. IsEditPlan pool.trees s (Some (record { step = prune_step p part by; need = λ game. need_of game p part })) c.tested.result) c.body_of-body.ensures
     (plan_by pool.trees s _ (edit.WithoutBody p c.body_of-body.result) c.tested.result c.tested.ensures.same c.tested.ensures.met c.tested.ensures.unmet (prune_edit pool.trees s p c.body_of-body.result by)))

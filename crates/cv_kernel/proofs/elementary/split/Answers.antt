@@ -5,7 +5,7 @@ use Rattle.cv_rule.proofs.Leading.{split_stands_not}
 use Rattle.cv_edit_places.specs.declared.change.Change.TheVariants as change
 use Rattle.cv_edit.specs.declared.edit.Edit.TheVariants as edit
 use Rattle.cv_script.specs.Views as items
-use Rattle.cv_kernel.specs.Answers.{IsPlan}
+use Rattle.cv_kernel.specs.Answers.{IsEditPlan}
 use Rattle.cv_kernel.specs.Rules.{rule_of_items}
 use Rattle.cv_kernel.proofs.Nodes.{size_nodes}
 use Rattle.cv_kernel.proofs.Planned.{plan_by, split_edit, unplaced}
@@ -28,5 +28,5 @@ returns c =
     let s = scene_of pool c.args.work.now.decls c.args.game in
     let m = c.args.condition in
     let p = c.in_ok-place.place in
-    subst (λ q. IsPlan pool.trees s (rule_of_items (items.Split q (tree_at pool.trees (Some m)))) c.tested.result) c.in_ok-place.ensures.place
+    subst (λ q. IsEditPlan pool.trees s (rule_of_items (items.Split q (tree_at pool.trees (Some m)))) c.tested.result) c.in_ok-place.ensures.place
     (plan_by pool.trees s _ (edit.At p (change.Split m)) c.tested.result c.tested.ensures.same c.tested.ensures.met c.tested.ensures.unmet (split_edit pool.trees s c.requires.small p m c.requires.live c.requires.short))

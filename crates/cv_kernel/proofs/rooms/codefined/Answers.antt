@@ -6,7 +6,7 @@ use Rattle.cv_scene_view.specs.Kept.{scene_of}
 use Rattle.cv_rule_codef.specs.Needs.{made_of_codef, need_codef}
 use Rattle.cv_rule_codef.specs.Row.{codef_step}
 use Rattle.cv_script.specs.Views as items
-use Rattle.cv_kernel.specs.Answers.{IsPlan}
+use Rattle.cv_kernel.specs.Answers.{IsEditPlan}
 use Rattle.cv_kernel.specs.Rules.{rule_of_items}
 use Rattle.cv_kernel.proofs.Nodes.{size_nodes}
 use Rattle.cv_kernel.proofs.Planned.{absent, unplaced}
@@ -28,5 +28,5 @@ returns c =
     let p = c.in_ok-place.place in
     let to = tree_at pool.trees (Some c.args.to) in
     let from = tree_at pool.trees (Some c.args.from) in
-    subst (λ q. IsPlan pool.trees s (rule_of_items (items.Codef q c.args.adds to from c.args.above)) c.at.result) c.in_ok-place.ensures.place
+    subst (λ q. IsEditPlan pool.trees s (rule_of_items (items.Codef q c.args.adds to from c.args.above)) c.at.result) c.in_ok-place.ensures.place
     (c.at.ensures pool.trees s (record { step = codef_step p c.args.adds c.args.above to from; need = need_codef p c.args.adds to }) (made_of_codef c.args.adds to (part_at s.game p)) c.in_ok-planned.ensures refl)

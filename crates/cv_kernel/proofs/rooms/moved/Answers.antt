@@ -3,7 +3,7 @@ use Rattle.cv_scene_view.specs.Kept.{scene_of}
 use Rattle.cv_rule_move.specs.Steps.{made_of_moved, move_step, need_moving}
 use Rattle.cv_scene.specs.Scenes.{part_at}
 use Rattle.cv_script.specs.Views as items
-use Rattle.cv_kernel.specs.Answers.{IsPlan}
+use Rattle.cv_kernel.specs.Answers.{IsEditPlan}
 use Rattle.cv_kernel.specs.Rules.{rule_of_items}
 use Rattle.cv_kernel.proofs.Planned.{absent, unplaced}
 use Rattle.cv_kernel.proofs.rooms.moved.Goals as goal
@@ -19,5 +19,5 @@ returns c =
     let pool = c.args.work.now.pool in
     let s = scene_of pool c.args.work.now.decls c.args.game in
     let p = c.in_ok-place.place in
-    subst (λ q. IsPlan pool.trees s (rule_of_items (items.Move q)) c.at.result) c.in_ok-place.ensures.place
+    subst (λ q. IsEditPlan pool.trees s (rule_of_items (items.Move q)) c.at.result) c.in_ok-place.ensures.place
     (c.at.ensures pool.trees s (record { step = move_step p; need = need_moving p }) (made_of_moved (part_at s.game p)) c.in_ok-plan.ensures refl)

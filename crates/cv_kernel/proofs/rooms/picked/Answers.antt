@@ -6,7 +6,7 @@ use Rattle.cv_scene_view.specs.Kept.{scene_of}
 use Rattle.cv_rule_pick.specs.Needs.{made_of_pick, need_picking}
 use Rattle.cv_rule_pick.specs.Row.{pick_step}
 use Rattle.cv_script.specs.Views as items
-use Rattle.cv_kernel.specs.Answers.{IsPlan}
+use Rattle.cv_kernel.specs.Answers.{IsEditPlan}
 use Rattle.cv_kernel.specs.Rules.{rule_of_items}
 use Rattle.cv_kernel.proofs.Nodes.{lines_nodes, size_nodes}
 use Rattle.cv_kernel.proofs.Planned.{absent, unplaced}
@@ -35,5 +35,5 @@ returns c =
     let ms = tree_at pool.trees c.args.terms in
     let d = tree_at pool.trees c.args.by.at_body in
     let e = tree_at pool.trees c.args.by.at_find in
-    subst (λ q. IsPlan pool.trees s (rule_of_items (items.Pick q ms d e)) c.at.result) c.in_ok-place.ensures.place
+    subst (λ q. IsEditPlan pool.trees s (rule_of_items (items.Pick q ms d e)) c.at.result) c.in_ok-place.ensures.place
     (c.at.ensures pool.trees s (record { step = pick_step p ms d e; need = need_picking p ms }) (made_of_pick p ms s.game) c.in_ok-planned.ensures refl)

@@ -7,6 +7,8 @@ use Rattle.cv_kernel_crypto.specs.Applied.{DrawsNext, HasEquivalences}
 use Rattle.cv_bound.specs.costs.Costs.{advantage_of}
 use Rattle.cv_bound.specs.costs.Sums.{SumsFit, with_cost}
 use Rattle.cv_bound.specs.declared.costs.sums.Sums.{Sums}
+use Rattle.cv_kernel.specs.Sequences.{AreModest}
+use Rattle.cv_kernel.proofs.Pushes.{modest_on}
 use Rattle.cv_kernel.proofs.Reduced.{advantage_fits, failed_answer, formed_grown, next_formed, reduced, refused_answer}
 use Rattle.cv_kernel.proofs.sequence.Sequence.reduce.Goals as goal
 
@@ -62,5 +64,8 @@ returns-clause-stands c =
       formed = formed;
       arrays = record { live = c.in_ok-next.ensures.live; fits = omega (arith, small); formed = formed; arrays = c.in_ok-next.ensures.arrays; entries = c.in_ok-next.ensures.entries };
       fits = subst SumsFit (sym (c.in_ok-sum.ensures ∙ ap (with_cost mid.sum) c.advantage.ensures)) (advantage_fits mid.sum (mid.steps + 1) c.args.reducing.equivalence c.prepare.ensures.stands.fits);
+      modest =
+          subst (λ (s : Sums). AreModest s (mid.steps + 1)) (sym (c.in_ok-sum.ensures ∙ ap (with_cost mid.sum) c.advantage.ensures))
+          (modest_on mid.sum (advantage_of (mid.steps + 1) c.args.reducing.equivalence) mid.steps c.prepare.ensures.stands.modest (omega arith));
       few = (let e = c.prepare.ensures.same.steps in omega (arith, c.requires.steps));
     }

@@ -1,6 +1,6 @@
 use Rattle.std.proofs.Common.{refl}
 use Rattle.std.specs.Fmt.{digits}
-use Rattle.cv_report.specs.contexts.Factors.{with_parameter}
+use Rattle.cv_costs.specs.Factors.{with_parameter}
 use Rattle.cv_report.proofs.contexts.laws.worked_contexts.Goals as goal
 
 pub returns-clause-none : goal.returns-clause-none

@@ -1,6 +1,0 @@
-use Rattle.cv_report.specs.contexts.Factors.{factors_of}
-use Rattle.cv_report.proofs.contexts.Values.{with_value}
-use Rattle.cv_report.proofs.contexts.laws.factors_have_the_value.Goals as goal
-
-pub returns-clause-more : goal.returns-clause-more
-returns-clause-more c = λ order i n ns. with_value order i n (factors_of order ns)

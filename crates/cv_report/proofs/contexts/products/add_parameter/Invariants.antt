@@ -1,9 +1,0 @@
-use Rattle.std.proofs.Common.{◌≡◌, ◌++◌, drop, take}
-use Rattle.cv_report.specs.contexts.Factors.{with_parameter}
-use Rattle.cv_report.proofs.contexts.products.add_parameter.Given as goal
-
-abbrev pub invariant-factors : goal.invariant-factors
-invariant-factors l = record {
-  same : l.factors.items ≡ l.fn.factors.items;
-  goes : take l.k l.factors.items ++ with_parameter l.order l.n (drop l.k l.factors.items) ≡ with_parameter l.order l.n l.fn.factors.items;
-}

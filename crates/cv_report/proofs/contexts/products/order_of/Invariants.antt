@@ -1,6 +1,0 @@
-use Rattle.std.proofs.Common.{◌≡◌, take}
-use Rattle.cv_report.specs.contexts.Factors.{parameters_in}
-use Rattle.cv_report.proofs.contexts.products.order_of.Given as goal
-
-abbrev pub invariant-decls : goal.invariant-decls
-invariant-decls l = l.order.items ≡ parameters_in (take l.k l.decls.list)
