@@ -1,3 +1,5 @@
 pub mod Factors
 pub mod Values
+mod Costs
 mod Parameters
+mod OtherSites

@@ -1,2 +1,3 @@
 pub mod Factors
+pub mod Large
 pub mod Collisions

@@ -1,8 +1,10 @@
-// Products of parameters as factors, and costs of collisions with them.
+// Products of parameters as factors, costs of collisions with them, and variables that are chosen at random from large types.
 #![tactic(auto)]
 
+mod large;
 mod laws;
 mod products;
 
+pub use large::{are_increasing, first_other_site, is_large};
 pub use laws::factors_have_the_value;
-pub use products::{cost_of_copies, factors_of, order_of};
+pub use products::{collision_of, cost_of_copies, cost_of_pairs, factors_of, order_of};

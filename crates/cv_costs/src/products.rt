@@ -1,9 +1,11 @@
 // The factors of products of parameters, in the order in which the parameters are declared, and costs of such products.
-ghost use Rattle.std.specs.Prelude.{◌≡◌, ◌+◌, ◌<◌, ◌^◌, ◌++◌, All, IfOk, List, OnOk, length};
+ghost use Rattle.std.specs.Prelude.{◌≡◌, ◌+◌, ◌<◌, ◌^◌, [], ◌∷◌, ◌++◌, All, IfOk, List, OnOk, length};
 ghost use Rattle.cv_pool.specs.KindTree.{KindTree};
 ghost use Rattle.cv_syntax.specs.Declarations.{declarations};
 ghost use Rattle.cv_steps.specs.Costs.{cost_of};
-ghost use Rattle.cv_costs.specs.Collisions.{one_for_each};
+ghost use Rattle.cv_steps.specs.Steps as steps;
+ghost use Rattle.cv_costs.specs.Collisions as specs;
+ghost use Rattle.cv_costs.specs.Collisions.{one_for_each, one_for_pairs};
 ghost use Rattle.cv_costs.specs.Factors as factors;
 ghost use Rattle.cv_costs.specs.Factors.{is_before, parameter_in, parameters_in, with_parameter};
 
@@ -105,6 +107,37 @@ fn shortened(alloc: Global, factors: &[(NameId, u64)]) -> Result<Vec<(NameId, u8
     Ok(made)
 }
 
+/// The chance of one value of a type, or of half of one, for each copy below replications with these parameters.
+pub fn collision_of(
+    alloc: Global,
+    decls: &Decls,
+    parameters: &[u32],
+    half: bool,
+    over: u32,
+) -> Result<Collision, AllocError>
+    requires { length parameters.now < 256 }
+    ensures { (trees : List KindTree) → IfOk result (λ made. made ≡ specs.collision_of
+        (declarations trees decls.now.list) parameters.now half over) }
+{
+    let order = order_of(alloc, decls)?;
+    let factors = factors_of(alloc, &order, parameters)?;
+    Ok(Collision {
+        times: 1,
+        factors: Factors::of(shortened(alloc, &factors)?),
+        half,
+        over: NameId(over),
+    })
+}
+
+/// One collision as a cost.
+fn cost_of_one(alloc: Global, collision: Collision) -> Result<Cost, AllocError>
+    ensures { IfOk result (λ made. made ≡ cost_of (steps.Collisions (collision ∷ []))) }
+{
+    let mut list = Vec::new(alloc);
+    list.push(collision)?;
+    Ok(Cost::Collisions(Collisions::of(list)))
+}
+
 /// The cost of one value of a type, for each copy below replications with these parameters.
 pub fn cost_of_copies(
     alloc: Global,
@@ -112,19 +145,36 @@ pub fn cost_of_copies(
     parameters: &[u32],
     over: u32,
 ) -> Result<Cost, AllocError>
-    requires { length parameters.now < 255 }
+    requires { length parameters.now < 256 }
     ensures { (trees : List KindTree) → IfOk result (λ made. made ≡ cost_of (one_for_each
         (declarations trees decls.now.list) parameters.now over)) }
 {
-    let order = order_of(alloc, decls)?;
-    let factors = factors_of(alloc, &order, parameters)?;
-    let collision = Collision {
-        times: 1,
-        factors: Factors::of(shortened(alloc, &factors)?),
-        half: false,
-        over: NameId(over),
-    };
-    let mut list = Vec::new(alloc);
-    list.push(collision)?;
-    Ok(Cost::Collisions(Collisions::of(list)))
+    let collision = collision_of(alloc, decls, parameters, false, over)?;
+    cost_of_one(alloc, collision)
+}
+
+/// The same parameters twice.
+fn twice(alloc: Global, parameters: &[u32]) -> Result<Vec<u32>, AllocError>
+    ensures { IfOk result (λ made. made.items ≡ parameters.now ++ parameters.now) }
+{
+    let mut made = Vec::new(alloc);
+    made.extend_from_slice(parameters)?;
+    made.extend_from_slice(parameters)?;
+    Ok(made)
+}
+
+/// The cost of two equal values of a type, for each pair of copies below replications with these parameters.
+pub fn cost_of_pairs(
+    alloc: Global,
+    decls: &Decls,
+    parameters: &[u32],
+    over: u32,
+) -> Result<Cost, AllocError>
+    requires { length parameters.now < 128 }
+    ensures { (trees : List KindTree) → IfOk result (λ made. made ≡ cost_of (one_for_pairs
+        (declarations trees decls.now.list) parameters.now over)) }
+{
+    let both = twice(alloc, parameters)?;
+    let collision = collision_of(alloc, decls, both.as_slice(), true, over)?;
+    cost_of_one(alloc, collision)
 }

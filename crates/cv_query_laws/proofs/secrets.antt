@@ -1,7 +1,3 @@
-pub mod Quiet
-pub mod Related
-pub mod Served
-pub mod Shapes
 pub mod Exchanged
 pub mod Alone
 pub mod Sizes

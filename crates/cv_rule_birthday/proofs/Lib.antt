@@ -1,1 +1,6 @@
+mod Changes
+mod Copies
+mod Equated
+mod Planned
+mod Sizes
 mod WorkedBirthdays

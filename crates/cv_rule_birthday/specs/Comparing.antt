@@ -1,22 +1,15 @@
 -- Comparisons of two cells of one array, and of their indices. Blanchet, TDSC 2008, section 3: two values that are chosen at random are
 -- equal only by chance.
-use Rattle.std.specs.Prelude.{ℕ, Bool, true, false, ◌&&◌, ◌==◌, not, nat_lt, if◌then◌else◌, List, [], ◌∷◌, Option, Some, None}
+use Rattle.std.specs.Prelude.{ℕ, Bool, false, ◌&&◌, ◌==◌, if◌then◌else◌, List, [], ◌∷◌, Option, Some, None}
 use Rattle.std.specs.List.{list_any}
-use Rattle.cv_syntax_trees.specs.declared.class.Class.TheVariants as class
-use Rattle.cv_syntax_trees.specs.declared.head.Head.{Head}
-use Rattle.cv_syntax_trees.specs.declared.head.Head.TheVariants.{Eq, New}
-use Rattle.cv_syntax_trees.specs.Declarations.{Declaration, Named}
-use Rattle.cv_syntax_trees.specs.Tree.{Tree, Empty, Node, first, first_place, second_place}
+use Rattle.cv_syntax_trees.specs.declared.head.Head.TheVariants.{Eq}
+use Rattle.cv_syntax_trees.specs.Tree.{Tree, Node, first}
 use Rattle.cv_derive_rules.specs.Inferences.{equations_of}
 use Rattle.cv_derive_rules.specs.Truths.{yes}
-use Rattle.cv_directory_sorts.specs.Sites.{first_of}
 use Rattle.cv_scope_rules.specs.Context.{items}
-use Rattle.cv_scope_rules.specs.Made.{made_by}
 use Rattle.cv_scope_rules.specs.Phrases.{Inputs}
-use Rattle.cv_scope_rules.specs.Sites.{Variable}
-use Rattle.cv_typing_rules.specs.Signature.{declaration_of}
 use Rattle.cv_scene.specs.Instances.{is_read_of}
-use Rattle.cv_scene.specs.Scenes.{Scene, part_at}
+use Rattle.cv_scene.specs.Scenes.{part_at}
 use Rattle.cv_scene.specs.Sights.{variable_of}
 use Rattle.cv_scene.specs.Terms.{has_site}
 use Rattle.cv_steps.specs.Rewriting.{has_term_at}
@@ -50,25 +43,3 @@ same_indices (m ∷ ms) ns = equations_of (m ∷ ms) ns
 abbrev pub compared : Tree → Tree
 compared (Node Eq l r) = same_indices (items (first l)) (items (first r))
 compared t = t
-
--- variables that are chosen at random
-
-abbrev pub is_large_by : Option Declaration → Bool
-is_large_by (Some (Named T (class.TypeName fixed large) arguments result)) = large
-is_large_by d = false
-
--- the type is declared as `[large]`
-abbrev pub is_large : Scene → (type : ℕ) → Bool
-is_large s T = is_large_by (declaration_of s.declarations T)
-
--- a `new` of one of these types
-abbrev pub chooses : (large : ℕ → Bool) → Head → Bool
-chooses large (New y T) = large T
-chooses large h = false
-
--- the first place in a tree that stands at a place where the variable is defined otherwise
-unfoldable pub first_other : (large : ℕ → Bool) → (x at : ℕ) → Tree → Option ℕ
-first_other large x p Empty = None
-first_other large x p (Node h a b) =
-    if made_by h a (Variable x) && not (chooses large h) then Some p
-    else first_of (first_other large x (first_place p h) a) (first_other large x (second_place p h a) b)

@@ -1,3 +1,5 @@
 pub mod Comparing
 pub mod Row
+pub mod Needs
+pub mod Chosen
 pub mod Worked

@@ -11,7 +11,6 @@ use Rattle.cv_derive_rules.specs.Truths.{yes}
 use Rattle.cv_scene.specs.Scenes.{Scene}
 use Rattle.cv_steps.specs.Judgements.{Accepted, Judgement, Refused}
 use Rattle.cv_steps.specs.Steps.{Collisions, Cost}
-use Rattle.cv_rule_birthday.specs.Row.{birthday_step}
 
 -- type 0 [fixed]. type 5 [fixed, large]. type 6 [fixed]. param 2. channel 3. channel 7.
 abbrev pub declared : List Declaration

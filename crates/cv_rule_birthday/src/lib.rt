@@ -1,11 +1,19 @@
-// The rule `birthday`: comparisons of two cells of one array of random values become comparisons of their indices. Its row.
+// The rule `birthday`: comparisons of two cells of one array of random values become comparisons of their indices. Its row and its plan.
 #![tactic(auto)]
+
+mod changing;
+mod choices;
+mod comparisons;
+mod equations;
+mod planning;
 
 ghost use Rattle.std.specs.Prelude.{◌≡◌};
 ghost use Rattle.std.specs.List.{AllByRecursion};
 ghost use Rattle.cv_steps.specs.Judgements.{judgement_of};
 ghost use Rattle.cv_rule_birthday.specs.Row.{birthday_step};
 ghost use Rattle.cv_rule_birthday.specs.Worked.{birthdays};
+
+pub use planning::plan;
 
 /// What is said of the step in small games: a comparison in a test, in the condition of a branch and in its body, and no place at all;
 /// and each condition fails somewhere.

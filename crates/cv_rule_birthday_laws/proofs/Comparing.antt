@@ -1,21 +1,20 @@
 -- Where no two cells of an array hold one value, a comparison of two of its cells has the value of the comparison of their indices.
-use Rattle.std.proofs.Common.{◌≡◌, ◌⊎◌, inl, inr, ℕ, zero, suc, ◌<◌, ◌&&◌, ◌||◌, ◌==◌, Bool, true, false, cond, List, [], ◌∷◌, map, Option, Some, None, is_some, refl, sym, ap, ap₂, subst, ◌∙◌, eq-eqb, eqb-true}
+use Rattle.std.proofs.Common.{◌≡◌, inl, inr, ℕ, ◌&&◌, ◌==◌, Bool, true, false, cond, List, [], ◌∷◌, map, Some, None, is_some, refl, sym, ap, ap₂, subst, ◌∙◌, eq-eqb, eqb-true}
 use Rattle.std.proofs.lemmas.Bool.{and_parts, both_ways}
 use Rattle.std.specs.List.{AllByRecursion}
-use Rattle.cv_syntax_trees.specs.declared.head.Head.{Head}
-use Rattle.cv_syntax_trees.specs.declared.head.Head.TheVariants.{And, Eq, Leaf, Read}
+use Rattle.cv_syntax_trees.specs.declared.head.Head.TheVariants.{Eq, Leaf, Read}
 use Rattle.cv_syntax_trees.specs.Tree.{Tree, Empty, Node, first}
 use Rattle.cv_meaning.specs.Interpretation.{Setting}
 use Rattle.cv_meaning.specs.Memory.{Indices, Store}
 use Rattle.cv_meaning.specs.Still.{head_is_still, is_still}
-use Rattle.cv_meaning.specs.Tapes.{New_at, Tape, same_tuple}
+use Rattle.cv_meaning.specs.Tapes.{Tape, same_tuple}
 use Rattle.cv_meaning.specs.Terms.{bit, found_in, is_one, leaf_value_from, or_zero, value, values}
 use Rattle.cv_meaning_laws.specs.adequacy.Typed.{AreBelowParameters}
 use Rattle.cv_meaning_laws.proofs.Counts.{same_tuple_exact, same_tuple_refl}
 use Rattle.cv_meaning_chances.specs.Tests.{some_equal}
 use Rattle.cv_derive_rules.specs.Inferences.{equations_of}
 use Rattle.cv_scope_rules.specs.Context.{items}
-use Rattle.cv_scope_rules.specs.Phrases.{Nil, Term, Terms, is_oracle_phrase}
+use Rattle.cv_scope_rules.specs.Phrases.{Nil, Term, is_oracle_phrase}
 use Rattle.cv_scope_runs.specs.Reads.{LeafAssigned, TermAssigned}
 use Rattle.cv_scope_runs.proofs.TermsLater.{some_of}
 use Rattle.cv_scene.specs.Instances.{is_read_of}

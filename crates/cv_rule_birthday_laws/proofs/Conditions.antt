@@ -1,6 +1,6 @@
 -- What follows where the conditions of the step hold.
-use Rattle.std.proofs.Common.{◌≡◌, ℕ, ◌&&◌, ◌||◌, ◌==◌, not, Bool, true, false, cond, List, [], ◌∷◌, Option, Some, None, refl, sym, ap, ap₂, subst, ◌∙◌, eqb-true}
-use Rattle.std.proofs.lemmas.Bool.{and_parts, both_ways}
+use Rattle.std.proofs.Common.{◌≡◌, ℕ, ◌&&◌, ◌||◌, ◌==◌, not, Bool, true, false, cond, List, [], ◌∷◌, Option, Some, None, refl, sym, ap, ap₂, ◌∙◌, eqb-true}
+use Rattle.std.proofs.lemmas.Bool.{both_ways}
 use Rattle.cv_syntax_trees.specs.declared.head.Head.{Head}
 use Rattle.cv_syntax_trees.specs.declared.head.Head.TheVariants.{New}
 use Rattle.cv_syntax_trees.specs.Tree.{Tree, Empty, Node, first_place, second_place}
@@ -8,7 +8,8 @@ use Rattle.cv_directory_sorts.specs.Sites.{first_of}
 use Rattle.cv_scope_rules.specs.Made.{made_by}
 use Rattle.cv_scope_rules.specs.Sites.{Variable}
 use Rattle.cv_scene.specs.Scenes.{has_news_alone, is_new_head}
-use Rattle.cv_rule_birthday.specs.Comparing.{chooses, first_other, first_uncompared, is_compared_at, is_one_of}
+use Rattle.cv_costs.specs.Large.{chooses, first_other_site}
+use Rattle.cv_rule_birthday.specs.Comparing.{first_uncompared, is_compared_at, is_one_of}
 
 -- at each of the places two cells are compared
 pub all_compared : (game : Tree) (x : ℕ) (places : List ℕ) → first_uncompared game x places ≡ None → (p : ℕ) → is_one_of places p ≡ true → is_compared_at game x p ≡ true
@@ -25,23 +26,23 @@ all_compared game x (q ∷ ps) e p i = go (is_compared_at game x q) refl e (q ==
 
 record HasNone (large : ℕ → Bool) (x p : ℕ) (h : Head) (a b : Tree) : Type 0 where
   here : (made_by h a (Variable x) && not (chooses large h)) ≡ false
-  first : first_other large x (first_place p h) a ≡ None
-  second : first_other large x (second_place p h a) b ≡ None
+  first : first_other_site large x (first_place p h) a ≡ None
+  second : first_other_site large x (second_place p h a) b ≡ None
 
-none_parts : (large : ℕ → Bool) (x p : ℕ) (h : Head) (a b : Tree) → first_other large x p (Node h a b) ≡ None → HasNone large x p h a b
-unfolding first_other
+none_parts : (large : ℕ → Bool) (x p : ℕ) (h : Head) (a b : Tree) → first_other_site large x p (Node h a b) ≡ None → HasNone large x p h a b
+unfolding first_other_site
 none_parts large x p h a b e = go (made_by h a (Variable x) && not (chooses large h)) refl e
   where
     both : (o q : Option ℕ) → first_of o q ≡ None → (o ≡ None) × (q ≡ None)
     both None q f = (refl, f)
     both (Some k) q f = absurd (cc)
 
-    go : (v : Bool) → (made_by h a (Variable x) && not (chooses large h)) ≡ v → cond v (Some p) (first_of (first_other large x (first_place p h) a) (first_other large x (second_place p h a) b)) ≡ None → HasNone large x p h a b
+    go : (v : Bool) → (made_by h a (Variable x) && not (chooses large h)) ≡ v → cond v (Some p) (first_of (first_other_site large x (first_place p h) a) (first_other_site large x (second_place p h a) b)) ≡ None → HasNone large x p h a b
     go true i f = absurd (cc)
     go false i f = let r = both _ _ f in record { here = i; first = r.0; second = r.1 }
 
 -- no definition of the variable is another than a `new`
-pub chosen_alone : (large : ℕ → Bool) (x p : ℕ) (t : Tree) → first_other large x p t ≡ None → has_news_alone x t ≡ true
+pub chosen_alone : (large : ℕ → Bool) (x p : ℕ) (t : Tree) → first_other_site large x p t ≡ None → has_news_alone x t ≡ true
 unfolding has_news_alone
 chosen_alone large x p Empty e = refl
 chosen_alone large x p (Node h a b) e =

@@ -1,10 +1,9 @@
 -- A game with comparisons of indices in place of those of cells has chances that differ by no more than that of two equal choices.
-use Rattle.std.proofs.Common.{◌≡◌, ℕ, ◌<◌, ◌+◌, ◌&&◌, Bool, true, false, List, [], Option, Some, None, refl, sym, ap, subst, ◌∙◌, arith}
+use Rattle.std.proofs.Common.{◌≡◌, ℕ, Bool, true, false, List, [], Some, None, refl, sym, ◌∙◌}
 use Rattle.std.proofs.lemmas.Bool.{and_parts, or_left}
-use Rattle.std.specs.List.{AllByRecursion}
 use Rattle.cv_lists.proofs.Each.{AllByRecursion_weaker}
 use Rattle.cv_syntax_trees.specs.Declarations.{Declaration}
-use Rattle.cv_syntax_trees.specs.Tree.{Tree, size}
+use Rattle.cv_syntax_trees.specs.Tree.{Tree}
 use Rattle.cv_directory_sorts.specs.declared.sort.Sort.TheVariants.{OfType}
 use Rattle.cv_directory_sorts.specs.Sites.{Variable as FirstSite, first_site}
 use Rattle.cv_meaning.specs.Advantage.{chance_of}
@@ -13,11 +12,10 @@ use Rattle.cv_meaning.specs.Experiments.{Experiment, mode_of, visits_of_run}
 use Rattle.cv_meaning.specs.Interpretation.{Interpretation, Setting, setting_of}
 use Rattle.cv_meaning.specs.Memory.{Store}
 use Rattle.cv_meaning.specs.Runs.{Adversary}
-use Rattle.cv_meaning.specs.Serving.{Visit}
 use Rattle.cv_meaning.specs.Tapes.{Tape}
 use Rattle.cv_meaning_chances.specs.Tests.{some_equal}
 use Rattle.cv_scope_rules.specs.Context.{nothing_known}
-use Rattle.cv_scope_rules.specs.Phrases.{Inputs, IsWellFormed, Term, is_oracle_phrase}
+use Rattle.cv_scope_rules.specs.Phrases.{Inputs, IsWellFormed}
 use Rattle.cv_scope_rules.specs.Scope.{is_variable}
 use Rattle.cv_scope_runs.proofs.Contexts.{not_constant}
 use Rattle.cv_scope_runs.proofs.FactsRuns.{well_game}
@@ -32,7 +30,8 @@ use Rattle.cv_steps_wording.specs.Changing.{AreTermsAt, changed_at}
 use Rattle.cv_steps_wording.specs.Facts.{HoldsIn, IsOfArray, KeepsValues}
 use Rattle.cv_steps_wording.proofs.Chances.{distance_within}
 use Rattle.cv_rule_fresh.proofs.Standing.{There, there}
-use Rattle.cv_rule_birthday.specs.Comparing.{compared, first_other, first_uncompared, is_compared_at, is_comparison, is_one_of}
+use Rattle.cv_costs.specs.Large.{first_other_site}
+use Rattle.cv_rule_birthday.specs.Comparing.{compared, first_uncompared, is_comparison, is_one_of}
 use Rattle.cv_rule_birthday_laws.specs.chosen.Drawn.{AreDrawn, choices_of, pairs_over}
 use Rattle.cv_rule_birthday_laws.proofs.Comparing.{comparison_says, still_compared}
 use Rattle.cv_rule_birthday_laws.proofs.Conditions.{all_compared, chosen_alone}
@@ -40,7 +39,7 @@ use Rattle.cv_rule_birthday_laws.proofs.chosen.Pairs.{rare}
 use Rattle.cv_rule_birthday_laws.proofs.chosen.Runs.{all_drawn}
 
 module _ (ds : List Declaration) (game : Tree) (x type : ℕ) (places : List ℕ) (large : ℕ → Bool) (V : FirstSite) (well : IsWellFormed ds game) (typed : IsTypedGame ds game)
-    (compares : first_uncompared game x places ≡ None) (first : first_site x [] game ≡ Some V) (sort : V.sort ≡ OfType type) (chosen : first_other large x 0 game ≡ None) (i : Interpretation) where
+    (compares : first_uncompared game x places ≡ None) (first : first_site x [] game ≡ Some V) (sort : V.sort ≡ OfType type) (chosen : first_other_site large x 0 game ≡ None) (i : Interpretation) where
   abbrev g : Setting
   g = setting_of ds i
 

@@ -1,12 +1,12 @@
 -- What the next game keeps of the game: its sorts and its values, and that it binds no index.
-use Rattle.std.proofs.Common.{◌≡◌, ℕ, ◌&&◌, Bool, true, false, cond, List, [], ◌∷◌, ◌⊎◌, inl, inr, Option, Some, None, is_some, refl, sym, ap, subst, ◌∙◌}
+use Rattle.std.proofs.Common.{◌≡◌, ℕ, Bool, true, false, cond, List, [], ◌∷◌, ◌⊎◌, inl, inr, Some, is_some, refl, sym, ap, subst, ◌∙◌}
 use Rattle.std.proofs.lemmas.Bool.{and_parts, both_ways}
 use Rattle.std.specs.List.{AllByRecursion}
 use Rattle.cv_syntax_trees.specs.declared.head.Head.{Head}
 use Rattle.cv_syntax_trees.specs.declared.head.Head.TheVariants.{And, Branch, Eq, In, Read, Yes}
 use Rattle.cv_syntax_trees.specs.Tree.{Tree, Empty, Node, first, first_place, second_place}
 use Rattle.cv_derive_rules.specs.Inferences.{equations_of}
-use Rattle.cv_directory_sorts.specs.Sites.{first_index, index_here}
+use Rattle.cv_directory_sorts.specs.Sites.{index_here}
 use Rattle.cv_scope_rules.specs.Context.{items}
 use Rattle.cv_scope_rules.specs.Phrases.{Phrase, Arm, Binders, Body, Guards, Inputs, Nil, Pattern, Term, both_are, is_phrase, parts}
 use Rattle.cv_steps.specs.Rewriting.{by_parts, is_term, parts_of}

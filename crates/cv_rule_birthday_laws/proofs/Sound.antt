@@ -1,5 +1,5 @@
 -- What the step keeps, and what it costs.
-use Rattle.std.proofs.Common.{◌≡◌, ℕ, ◌+◌, ◌*◌, ◌<◌, ◌&&◌, Bool, true, false, List, [], ◌∷◌, ◌++◌, Option, Some, None, is_some, refl, sym, ap, ap₂, subst, ◌∙◌, arith}
+use Rattle.std.proofs.Common.{◌≡◌, ℕ, ◌+◌, ◌*◌, ◌<◌, true, List, [], ◌∷◌, ◌++◌, Option, Some, None, refl, sym, ap, ap₂, subst, ◌∙◌, arith}
 use Rattle.std.proofs.lemmas.Bool.{and_parts}
 use Rattle.cv_syntax_trees.specs.declared.class.Class.TheVariants as class
 use Rattle.cv_syntax_trees.specs.Declarations.{Declaration, Named}
@@ -7,7 +7,6 @@ use Rattle.cv_syntax_trees.specs.Tree.{Tree}
 use Rattle.cv_meaning.specs.Advantage.{chance_of}
 use Rattle.cv_meaning.specs.Chances.{AtMost, Chance, distance}
 use Rattle.cv_meaning.specs.Interpretation.{Interpretation, setting_of}
-use Rattle.cv_meaning.specs.Runs.{Mode}
 use Rattle.cv_meaning.specs.Satisfies.{Satisfies}
 use Rattle.cv_meaning_chances.specs.Fractions.{HasTapes}
 use Rattle.cv_meaning_chances.specs.values.Values.{HasValuesIn}
@@ -21,7 +20,7 @@ use Rattle.cv_typing_rules.specs.Signature.{declaration_of}
 use Rattle.cv_typing_runs.specs.Games.{HasDeclaredSorts}
 use Rattle.cv_scene.specs.Scenes.{Scene, is_type_by, part_at}
 use Rattle.cv_scene.specs.Terms.{has_site, is_game}
-use Rattle.cv_costs.specs.Collisions.{declared_parameters}
+use Rattle.cv_costs.specs.Collisions.{declared_parameters, one_for_pairs}
 use Rattle.cv_costs.specs.Factors.{factors_of}
 use Rattle.cv_costs.proofs.Values.{with_value}
 use Rattle.cv_derive_laws.specs.stores.Costs.{CostsAtMost, bound_of}
@@ -30,15 +29,16 @@ use Rattle.cv_steps.specs.Rewriting.{has_term_at}
 use Rattle.cv_steps.specs.Steps.{Cost, Leads}
 use Rattle.cv_steps.proofs.Rows.{leads_same, unless_at_leads, unless_leads}
 use Rattle.cv_steps_laws.proofs.Indices.{Lacks, bound_before}
-use Rattle.cv_steps_laws.proofs.Keeping.{IsAccepted, accepted}
+use Rattle.cv_steps_laws.proofs.Keeping.{accepted}
 use Rattle.cv_steps_laws.proofs.Sorts.{sorts_kept}
 use Rattle.cv_steps_laws.proofs.Unletted.{IsKept}
 use Rattle.cv_steps_laws.proofs.Values.{type_value, values_kept}
 use Rattle.cv_steps_wording.specs.Changing.{AreTermsAt, changed_at}
 use Rattle.cv_steps_wording.proofs.Places.{at_root}
 use Rattle.cv_rule_fresh.specs.collisions.Chances.{copies}
-use Rattle.cv_rule_birthday.specs.Comparing.{compared, first_other, first_uncompared, is_compared_at, is_comparison, is_large, is_large_by, is_one_of}
-use Rattle.cv_rule_birthday.specs.Row.{birthday_row, birthday_row_by, birthday_step, one_for_pairs, type_of}
+use Rattle.cv_costs.specs.Large.{first_other_site, is_large, is_large_by}
+use Rattle.cv_rule_birthday.specs.Comparing.{compared, first_uncompared, is_comparison, is_one_of}
+use Rattle.cv_rule_birthday.specs.Row.{birthday_row, birthday_row_by, birthday_step, type_of}
 use Rattle.cv_rule_birthday_laws.specs.chosen.Drawn.{pairs_over}
 use Rattle.cv_rule_birthday_laws.proofs.Conditions.{all_compared, chosen_alone}
 use Rattle.cv_rule_birthday_laws.proofs.Keeping.{costs}
@@ -77,7 +77,7 @@ pub record IsBirthday (s : Scene) (x : ℕ) (places : List ℕ) (next : Tree) (c
   pub variable : FirstSite
   pub first : first_site x [] s.game ≡ Some variable
   pub compares : first_uncompared s.game x places ≡ None
-  pub chosen : first_other (is_large s) x 0 s.game ≡ None
+  pub chosen : first_other_site (is_large s) x 0 s.game ≡ None
   pub leads : changed_at (is_one_of places) compared 0 s.game ≡ next
   pub large : is_large s (type_of variable.sort) ≡ true
   pub priced : one_for_pairs s.declarations variable.parameters (type_of variable.sort) ≡ cost
@@ -94,7 +94,7 @@ birthday_leads s x places next cost e = go (first_site x [] s.game) refl r.1
     go : (o : Option FirstSite) → first_site x [] s.game ≡ o → birthday_row_by s x places o ≡ Leads next cost → IsBirthday s x places next cost
     go None f k = absurd (cc)
     go (Some v) f k =
-        let q = unless_at_leads 2 (first_other (is_large s) x 0 s.game) _ next cost k in
+        let q = unless_at_leads 2 (first_other_site (is_large s) x 0 s.game) _ next cost k in
         let l = unless_leads (is_large s (type_of v.sort)) 2 0 _ next cost q.1 in
         record { variable = v; first = f; compares = r.0; chosen = q.0; large = l.0; leads = leads_same _ next _ cost l.1; priced = cost_same _ next _ cost l.1 }
 

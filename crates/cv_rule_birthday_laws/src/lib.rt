@@ -17,7 +17,8 @@ ghost use Rattle.cv_scope_rules.specs.Phrases.{IsWellFormed};
 ghost use Rattle.cv_typing_rules.specs.Parts.{IsTypedGame};
 ghost use Rattle.cv_derive_laws.specs.stores.Steps.{IsSound};
 ghost use Rattle.cv_steps_wording.specs.Changing.{changed_at};
-ghost use Rattle.cv_rule_birthday.specs.Comparing.{compared, first_other, first_uncompared, is_one_of};
+ghost use Rattle.cv_costs.specs.Large.{first_other_site};
+ghost use Rattle.cv_rule_birthday.specs.Comparing.{compared, first_uncompared, is_one_of};
 ghost use Rattle.cv_rule_birthday.specs.Row.{birthday_step};
 ghost use Rattle.cv_rule_birthday_laws.specs.chosen.Drawn.{pairs_over};
 
@@ -28,7 +29,7 @@ pub fn comparisons_of_choices_become_those_of_indices()
     ensures { (ds : List Declaration) (game : Tree) (x type : ℕ) (places : List ℕ)
         (large : ℕ → Bool) (v : Variable) → IsWellFormed ds game → IsTypedGame ds game →
         first_uncompared game x places ≡ None → first_site x [] game ≡ Some v →
-        v.sort ≡ OfType type → first_other large x 0 game ≡ None →
+        v.sort ≡ OfType type → first_other_site large x 0 game ≡ None →
         (i : Interpretation) (y : Experiment) (a : Adversary) →
         AtMost (distance (chance_of (setting_of ds i) y a game)
         (chance_of (setting_of ds i) y a (changed_at (is_one_of places) compared 0 game)))

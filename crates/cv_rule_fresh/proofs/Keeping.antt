@@ -68,7 +68,7 @@ use Rattle.cv_lists.proofs.Tests.{equals_comm, differs}
 use Rattle.cv_lists.proofs.Each.{AllByRecursion_both}
 
 -- chances without tapes are at no distance
-nothing_apart : (p q r : Chance) → p.all ≡ 0 → q.all ≡ 0 → AtMost (distance p q) r
+pub nothing_apart : (p q r : Chance) → p.all ≡ 0 → q.all ≡ 0 → AtMost (distance p q) r
 nothing_apart p q r e f = go p.all q.all e f
   where
     go : (a b : ℕ) → a ≡ 0 → b ≡ 0 → ((p.good * b - q.good * a) + (q.good * a - p.good * b)) * r.all ≤ r.good * (a * b)
@@ -83,7 +83,7 @@ nothing_apart p q r e f = go p.all q.all e f
 abbrev fraction_of : (good all : ℕ) → Chance
 fraction_of m n = record { good = m; all = n }
 
-product_copies : (order : List ℕ) (i : Interpretation) (ps : List ℕ) → product_value i (factors_of order ps) ≡ copies i ps
+pub product_copies : (order : List ℕ) (i : Interpretation) (ps : List ℕ) → product_value i (factors_of order ps) ≡ copies i ps
 unfolding copies
 product_copies order i [] = refl
 product_copies order i (p ∷ ps) = with_value order i p (factors_of order ps) ∙ ap (λ m. i.parameter_value p * m) (product_copies order i ps)

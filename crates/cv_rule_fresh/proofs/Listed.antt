@@ -185,7 +185,7 @@ module _ (ds : List Declaration) (i : Interpretation) (game : Tree) (x : ℕ) (w
     games_sized (Node h a b) ns k =
         node_sized h a b ns (λ z U e. absurd (cc)) (games_sized a (bounds_under g ns h) k.0) (games_sized b (bounds_under g ns h) k.1)
 
-    cells_sized : (m : Mode) (a : Adversary) → HasTypedRestrictions (context_of ds game) game → AllByRecursion IsSized (cells g m a game)
+    pub cells_sized : (m : Mode) (a : Adversary) → HasTypedRestrictions (context_of ds game) game → AllByRecursion IsSized (cells g m a game)
     unfolding cells
     cells_sized m a h =
         all_once IsSized (at_each_copy g (cells_at g) [] game ++ (test_cells g m game ++ coin_cells 0 a.coins))

@@ -18,7 +18,8 @@ use Rattle.cv_edit_places.specs.declared.parts.Parts.{Parts}
 use Rattle.cv_edit_places.specs.declared.plan.Failure.{Failure}
 use Rattle.cv_edit_places.specs.declared.plan.Priced.{Priced}
 use Rattle.cv_rule_fresh.specs.collisions.Choices as choices
-use Rattle.cv_rule_fresh.specs.collisions.Choices.{choice_above, is_large, parameters_at}
+use Rattle.cv_costs.specs.Large.{is_large}
+use Rattle.cv_rule_fresh.specs.collisions.Choices.{choice_above, parameters_at}
 use Rattle.cv_rule_names.specs.Reach.{is_in_scope_at}
 use Rattle.cv_rule_fresh.specs.collisions.Equalities.{current_variable}
 use Rattle.cv_rule_fresh.specs.collisions.Fresh.{either, fresh_row, fresh_step, row_by_choice, row_by_side, row_by_variable}

@@ -1,5 +1,5 @@
 -- What is seen of a cell on the way to a place.
-use Rattle.std.proofs.Common.{◌≡◌, ℕ, ◌&&◌, ◌||◌, Bool, true, false, List, [], ◌∷◌, ◌++◌, map, take, Option, Some, None, is_some, option_map, Result, refl, sym, ap, ap₂, subst, ◌∙◌}
+use Rattle.std.proofs.Common.{◌≡◌, ℕ, ◌&&◌, ◌||◌, Bool, true, false, List, [], ◌∷◌, ◌++◌, map, take, Option, Some, None, is_some, Result, refl, sym, ap, ap₂, subst, ◌∙◌}
 use Rattle.std.proofs.lemmas.Bool.{both_ways}
 use Rattle.std.specs.Prelude.{IfOk}
 use Rattle.std.proofs.lemmas.List.{append-nil}
@@ -8,15 +8,6 @@ use Rattle.std.specs.List.{list_any}
 use Rattle.cv_syntax_trees.specs.declared.head.Head.{Head}
 use Rattle.cv_syntax_trees.specs.declared.head.Head.TheVariants.{Branch, Call, Cons, In, Key, Leaf, Let, New}
 use Rattle.cv_syntax_trees.specs.Tree.{Tree, Empty, Node, same_tree}
-use Rattle.cv_syntax_trees.specs.declared.class.Class.{Class}
-use Rattle.cv_syntax_trees.specs.declared.class.Class.TheVariants as class
-use Rattle.cv_syntax.specs.declared.decls.Decl.{Decl}
-use Rattle.cv_syntax.specs.declared.decls.Decl.TheVariants as decl
-use Rattle.cv_syntax.specs.Classes.{class_by, class_in, declaration_in}
-use Rattle.cv_syntax.specs.Declarations.{declarations, declared}
-use Rattle.cv_pool.specs.KindTree.{KindTree}
-use Rattle.cv_typing_rules.specs.Signature.{declaration_of}
-use Rattle.cv_typing.proofs.Bridges.{declaration_same}
 use Rattle.cv_scope_rules.specs.declared.position.Position.{Position}
 use Rattle.cv_scope_rules.specs.declared.position.Position.TheVariants.{Bodies, Cells, ElseBody, Guarded, Guards}
 use Rattle.cv_scope_rules.specs.Context.{Context, cells_of, first_context, second_context}
@@ -25,9 +16,7 @@ use Rattle.cv_scope_rules.specs.Tests.{is_in_reach}
 use Rattle.cv_derive_rules.specs.Given.{given_for, or_node, with_given}
 use Rattle.cv_derive_reasons.specs.cells.Cells.{defined_second, is_among_under}
 use Rattle.cv_derive_reasons.specs.substitution.Under.{under}
-use Rattle.cv_rule_fresh.specs.collisions.Choices.{is_large_by}
 use Rattle.cv_rule_names.specs.Reach.{is_in_scope, is_in_scope_by}
-use Rattle.cv_rule_fresh.specs.collisions.Sizes.{is_large_class}
 use Rattle.cv_rule_fresh.specs.Looks.{Sees, entered_cells, reads_here}
 use Rattle.cv_rule_fresh.specs.declared.reach.Seen.{Seen}
 
@@ -141,19 +130,6 @@ scope_end names Γ t e = ap (is_in_scope names Γ) e
 
 pub seen_here : (cell : Tree) (Γ Δ : Context) (s : Seen) → Sees cell Γ s → Some Γ ≡ Some Δ → (s.defined || s.own) ≡ is_in_reach Δ cell
 seen_here cell Γ Δ s k e = let f : Γ ≡ Δ = cc in ap₂ ◌||◌ k.defined k.own ∙ ap (λ Θ. is_in_reach Θ cell) f
-
--- a large type, as its class says
-
-large_by : (trees : List KindTree) (o : Option Decl) → is_large_class (class_by o) ≡ is_large_by (option_map (declared trees) o)
-large_by trees None = refl
-large_by trees (Some (decl.Name id (class.TypeName fixed large) args result)) = refl
-large_by trees (Some (decl.Name id c args result)) = refl
-large_by trees (Some (decl.Equation n)) = refl
-large_by trees (Some (decl.Equiv id n)) = refl
-large_by trees (Some (decl.Query n)) = refl
-
-pub large_same : (trees : List KindTree) (ds : List Decl) (T : ℕ) (k : Class) → k ≡ class_in ds T → is_large_class k ≡ is_large_by (declaration_of (declarations trees ds) T)
-large_same trees ds T k e = ap is_large_class e ∙ (large_by trees (declaration_in ds T) ∙ ap is_large_by (sym (declaration_same trees ds T)))
 
 -- what isn't read in scope
 

@@ -22,7 +22,8 @@ use Rattle.cv_steps_laws.proofs.Indices.{Lacks, bound_before, lacking_changed, l
 use Rattle.cv_steps_laws.proofs.Keeping.{accepted}
 use Rattle.cv_steps_laws.proofs.Sorts.{declared_rewritten, term_declared}
 use Rattle.cv_steps_laws.proofs.Values.{still_values, type_value, values_put}
-use Rattle.cv_rule_fresh.specs.collisions.Choices.{is_large, is_large_by, parameters_at}
+use Rattle.cv_costs.specs.Large.{is_large_by}
+use Rattle.cv_rule_fresh.specs.collisions.Choices.{parameters_at}
 use Rattle.cv_rule_fresh.specs.collisions.Fresh.{fresh_step}
 use Rattle.cv_rule_fresh.proofs.Keeping.{misses}
 use Rattle.cv_rule_fresh.proofs.Leads.{BySide, LeadsFresh, fresh_leads}

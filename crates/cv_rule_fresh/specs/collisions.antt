@@ -1,6 +1,5 @@
 pub mod Equalities
 pub mod Choices
 pub mod Fresh
-pub mod Sizes
 pub mod Chances
 pub mod Worked

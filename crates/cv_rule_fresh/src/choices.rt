@@ -1,13 +1,11 @@
 ghost use Rattle.std.specs.Prelude.{◌≡◌, ◌<◌, ◌^◌, Some, length, option_map};
 ghost use Rattle.cv_syntax_trees.specs.Tree.{size};
 ghost use Rattle.cv_syntax.specs.PoolTrees.{tree_at};
-ghost use Rattle.cv_scene_view.specs.Kept.{scene_of};
 ghost use Rattle.cv_rule_fresh.specs.collisions.Choices as choices;
-ghost use Rattle.cv_rule_fresh.specs.collisions.Sizes.{is_large_class};
 ghost use Rattle.cv_rule_fresh.specs.Looks.{choice_of};
 
 use cv_path::{Lies, place_in};
-use cv_syntax::{Class, Head, NameId, NodeId, Pool, Work, read_node};
+use cv_syntax::{Head, NodeId, Pool, read_node};
 
 /// A `new` by its place, with its type.
 #[derive(Clone, Copy)]
@@ -60,21 +58,4 @@ pub(crate) fn choice_above(pool: &Pool, game: NodeId, x: u32, place: u32) -> Opt
         }
     }
     None
-}
-
-/// Whether names of a class are large types.
-fn is_large_class(class: Class) -> bool
-    ensures { result ≡ is_large_class class }
-{
-    match class {
-        Class::TypeName { large, .. } => large,
-        _ => false,
-    }
-}
-
-/// Whether a name is declared as one of a large type.
-pub(crate) fn is_large(work: &Work, game: NodeId, t: u32) -> bool
-    ensures { result ≡ choices.is_large (scene_of work.now.pool work.now.decls game) t }
-{
-    is_large_class(work.decls.class(NameId(t)))
 }

@@ -13,10 +13,10 @@ ghost use Rattle.cv_edit_places.specs.Plans.{IsPriced, failed};
 ghost use Rattle.cv_rule_fresh.specs.Looks.{IsChosen, IsFalsity, later_failure};
 ghost use Rattle.cv_rule_fresh.specs.collisions.Fresh.{fresh_row, fresh_step, row_by_side};
 
-use crate::choices::{Choice, choice_above, is_large};
+use crate::choices::{Choice, choice_above};
 use crate::reach::is_in_scope_at;
 use crate::sides::{current_variable, equality_at};
-use cv_costs::cost_of_copies;
+use cv_costs::{cost_of_copies, is_large};
 use cv_edit_places::{Change, Failure, Parts, Priced};
 use cv_scene_view::{has_place, replications_at};
 use cv_syntax::{Head, NodeId, Work};

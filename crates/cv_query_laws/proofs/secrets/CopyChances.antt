@@ -44,10 +44,10 @@ use Rattle.cv_query_laws.proofs.secrets.Coded.{Coded, IsExpected, ReadsAssigned,
 use Rattle.cv_query_laws.proofs.secrets.Copies.{HaveOneSort, copying_kind, names, quiet_copies}
 use Rattle.cv_query_laws.proofs.secrets.CopySizes.{lets_typed, never_copies, odd_for_copies, same_sizes}
 use Rattle.cv_query_laws.proofs.secrets.Places.{agree_in, agree_of, place_in}
-use Rattle.cv_query_laws.proofs.secrets.Quiet.{IsQuiet}
-use Rattle.cv_query_laws.proofs.secrets.Related.{Link}
-use Rattle.cv_query_laws.proofs.secrets.Served.{But, Copies, One, guesses}
-use Rattle.cv_query_laws.proofs.secrets.Shapes.{one_of}
+use Rattle.cv_query_quiet.specs.Quiet.{IsQuiet}
+use Rattle.cv_query_quiet.specs.Twins.{Link}
+use Rattle.cv_query_quiet.proofs.Served.{But, Copies, One, guesses}
+use Rattle.cv_query_quiet.proofs.Shapes.{one_of}
 use Rattle.cv_query_laws.proofs.secrets.Swaps.{Choice, exchange, exchange_agrees, exchange_off, exchange_twice, exchange_within, is_test, one_size}
 use Rattle.cv_query_laws.proofs.secrets.Told.{first_in_run, first_told, one_first, told_at}
 use Rattle.cv_meaning_runs.specs.Replacement.{Process}

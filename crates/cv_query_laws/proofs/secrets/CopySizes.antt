@@ -29,7 +29,7 @@ use Rattle.cv_query_certificates.specs.Secrets.{is_copy}
 use Rattle.cv_query_laws.proofs.secrets.Alone.{AreOdd, none_odd}
 use Rattle.cv_query_laws.proofs.secrets.Copies.{HaveOneSort}
 use Rattle.cv_query_laws.proofs.secrets.Places.{sized_is_in}
-use Rattle.cv_query_laws.proofs.secrets.Shapes.{left_false}
+use Rattle.cv_query_quiet.proofs.Shapes.{left_false}
 use Rattle.cv_query_laws.proofs.secrets.Sizes.{Give, cells_size, draws_apart, no_coin, none_in_copies, or_else, parts_size, size_append, tests_apart}
 use Rattle.cv_query_laws.proofs.secrets.Swaps.{one_size}
 use Rattle.cv_lists.proofs.Tests.{differ_comm}

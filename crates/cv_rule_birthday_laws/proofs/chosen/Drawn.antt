@@ -1,19 +1,19 @@
 -- In a run each value of a variable that `new` alone defines is that of its cell on the tape.
-use Rattle.std.proofs.Common.{◌≡◌, ℕ, zero, suc, ◌+◌, ◌&&◌, ◌||◌, not, ◌==◌, Bool, true, false, cond, List, [], ◌∷◌, ◌++◌, ◌⊎◌, inl, inr, Option, Some, None, refl, sym, ap, ap₂, subst, ◌∙◌, eqb-true}
+use Rattle.std.proofs.Common.{◌≡◌, ℕ, zero, suc, ◌&&◌, ◌||◌, not, ◌==◌, Bool, true, false, cond, List, [], ◌∷◌, ◌++◌, Option, Some, None, refl, sym, ap₂, ◌∙◌, eqb-true}
 use Rattle.std.proofs.lemmas.Bool.{both_ways, and_parts, not-true}
 use Rattle.std.specs.List.{AllByRecursion}
 use Rattle.cv_syntax_trees.specs.declared.head.Head.{Head}
 use Rattle.cv_syntax_trees.specs.declared.head.Head.TheVariants.{Branch, Call, Cons, Event, Find, If, In, Key, Let, New, Out, Par, Repl}
 use Rattle.cv_syntax_trees.specs.Tree.{Tree, Empty, Node, first_place, second, second_place}
-use Rattle.cv_meaning.specs.Binders.{bound_to, fits, with_bound}
+use Rattle.cv_meaning.specs.Binders.{bound_to}
 use Rattle.cv_meaning.specs.Candidates.{Candidate, below, candidates, chosen}
-use Rattle.cv_meaning.specs.Inputs.{Input, inputs_of, message_binders}
+use Rattle.cv_meaning.specs.Inputs.{Input, inputs_of}
 use Rattle.cv_meaning.specs.Interpretation.{Setting}
-use Rattle.cv_meaning.specs.Memory.{Indices, Local, Memory, Store, put, tuple, with_answer, with_event, with_value}
+use Rattle.cv_meaning.specs.Memory.{Indices, Local, Memory, Store, put, tuple}
 use Rattle.cv_meaning.specs.Runs.{Adversary, Mode}
-use Rattle.cv_meaning.specs.Serving.{Turn, Visit, after_find, oracle_call, step}
+use Rattle.cv_meaning.specs.Serving.{Visit, after_find, oracle_call, step}
 use Rattle.cv_meaning.specs.Tapes.{Find_at, New_at, Tape, same_tuple}
-use Rattle.cv_meaning.specs.Terms.{is_one, value_here, values_here}
+use Rattle.cv_meaning.specs.Terms.{value_here}
 use Rattle.cv_meaning.specs.Experiments.{run, visits_of_run}
 use Rattle.cv_meaning_laws.proofs.Counts.{same_tuple_exact}
 use Rattle.cv_meaning_laws.proofs.Lists.{each_flat_map}

@@ -1,20 +1,20 @@
 -- Two cells of such a variable are equal only by chance.
-use Rattle.std.proofs.Common.{◌≡◌, ℕ, zero, suc, ◌+◌, ◌-◌, ◌*◌, ◌≤◌, ◌<◌, ◌||◌, ◌&&◌, ◌==◌, Bool, true, false, List, [], ◌∷◌, length, map, All, ◌⊎◌, inl, inr, Option, Some, None, is_some, refl, sym, ap, ap₂, subst, ◌∙◌, arith, eq-eqb, eqb-true, cond, not, le_trans, mul-le-mul_left, mul-le-mul_right}
+use Rattle.std.proofs.Common.{◌≡◌, ℕ, ◌-◌, ◌*◌, ◌≤◌, ◌||◌, ◌&&◌, ◌==◌, Bool, true, false, List, [], ◌∷◌, length, map, All, inl, inr, Option, Some, None, is_some, refl, sym, ap, subst, ◌∙◌, arith, eq-eqb, eqb-true, cond, not, le_trans, mul-le-mul_left, mul-le-mul_right}
 use Rattle.std.specs.Prelude.{Contains}
 use Rattle.std.proofs.lemmas.Bool.{and_parts, both_ways, not-true, or_left, or_parts, or_right}
 use Rattle.std.proofs.lemmas.List.{length-map}
 use Rattle.std.proofs.lemmas.List.Elements.{All-from_recursion}
-use Rattle.std.specs.List.{AllByRecursion, list_any}
+use Rattle.std.specs.List.{list_any}
 use Rattle.cv_syntax_trees.specs.declared.head.Head.{Head}
 use Rattle.cv_syntax_trees.specs.declared.head.Head.TheVariants.{Binder, Branch, In, Let, New}
 use Rattle.cv_syntax_trees.specs.Declarations.{Declaration}
-use Rattle.cv_syntax_trees.specs.Tree.{Tree, Empty, Node, first_place, second, second_place}
+use Rattle.cv_syntax_trees.specs.Tree.{Tree, Empty, Node, second}
 use Rattle.cv_meaning.specs.Cells.{cells, tuples_below}
 use Rattle.cv_meaning.specs.Chances.{AtMost, Chance, chance}
 use Rattle.cv_meaning.specs.Interpretation.{Interpretation, Setting, setting_of}
 use Rattle.cv_meaning.specs.Runs.{Adversary, Mode}
-use Rattle.cv_meaning.specs.Tapes.{Cell, New_at, Tape, total}
-use Rattle.cv_meaning_laws.specs.adequacy.Typed.{AreBelowParameters, HasTypedRestrictions}
+use Rattle.cv_meaning.specs.Tapes.{Cell, New_at, Tape}
+use Rattle.cv_meaning_laws.specs.adequacy.Typed.{AreBelowParameters}
 use Rattle.cv_meaning_laws.proofs.Listed.{Has, Within, cells_distinct, each_map_in, within_has}
 use Rattle.cv_meaning_laws.proofs.adequacy.Lists.{has_below}
 use Rattle.cv_meaning_chances.specs.Fractions.{birthday_bound}
@@ -38,11 +38,10 @@ use Rattle.cv_typing_runs.proofs.Games.{restrictions}
 use Rattle.cv_typing_runs.proofs.SameSites.{branch_binders, input_binders}
 use Rattle.cv_scene.specs.Scenes.{has_news_alone, is_new_head}
 use Rattle.cv_steps.proofs.Flat.{open_phrase}
-use Rattle.cv_scene.specs.Terms.{has_site}
 use Rattle.cv_rule_fresh.specs.collisions.Chances.{copies}
 use Rattle.cv_rule_fresh.proofs.Listed.{bounds, choice_contained, length_tuples}
 use Rattle.cv_rule_fresh.proofs.Standing.{plain_parts}
-use Rattle.cv_rule_birthday_laws.specs.chosen.Drawn.{AreDrawn, choices_of, pairs_over}
+use Rattle.cv_rule_birthday_laws.specs.chosen.Drawn.{choices_of, pairs_over}
 use Rattle.cv_rule_birthday_laws.proofs.chosen.Below.{news_there, parameters_there}
 use Rattle.cv_rule_birthday_laws.proofs.chosen.Tuples.{choices_distinct}
 

@@ -1,12 +1,11 @@
 -- The tuples below bounds are listed once.
-use Rattle.std.proofs.Common.{◌≡◌, ℕ, zero, suc, ◌+◌, ◌<◌, ◌≤◌, ◌&&◌, ◌==◌, Bool, true, false, List, [], ◌∷◌, ◌++◌, flat_map, map, inl, inr, refl, sym, ap, ap₂, subst, ◌∙◌, append_assoc, append-nil, arith}
-use Rattle.std.proofs.lemmas.Bool.{both_ways}
+use Rattle.std.proofs.Common.{◌≡◌, ℕ, zero, suc, ◌<◌, ◌≤◌, ◌&&◌, ◌==◌, Bool, true, false, List, [], ◌∷◌, ◌++◌, flat_map, map, refl, sym, ap, subst, ◌∙◌, append_assoc, append-nil, arith}
 use Rattle.std.specs.List.{AllByRecursion, IsDistinct}
-use Rattle.cv_lists.proofs.Each.{AllByRecursion_append, AllByRecursion_cross, AllByRecursion_flat_map, AllByRecursion_map, AllByRecursion_weaker}
+use Rattle.cv_lists.proofs.Each.{AllByRecursion_append, AllByRecursion_flat_map, AllByRecursion_map}
 use Rattle.cv_lists.proofs.Tests.{differs}
 use Rattle.cv_meaning.specs.Candidates.{below}
 use Rattle.cv_meaning.specs.Cells.{tuples_below}
-use Rattle.cv_meaning.specs.Tapes.{Cell, New_at, same_cell, same_tuple}
+use Rattle.cv_meaning.specs.Tapes.{New_at, same_cell, same_tuple}
 
 -- two lists without common elements
 distinct_both : {A : Type 0} (p : A → A → Bool) (xs ys : List A) → IsDistinct p xs → IsDistinct p ys → AllByRecursion (λ x. AllByRecursion (λ y. p x y ≡ false) ys) xs → IsDistinct p (xs ++ ys)

@@ -1,16 +1,9 @@
 -- The `new` of a variable above a place in the same body, and what is in scope there. Blanchet, TDSC 2008, section 2.
-use Rattle.std.specs.Prelude.{ℕ, ◌+◌, ◌-◌, Bool, true, false, ◌&&◌, ◌==◌, nat_lt, if◌then◌else◌, List, map, Option, Some, None}
-use Rattle.cv_syntax_trees.specs.declared.class.Class.TheVariants as class
+use Rattle.std.specs.Prelude.{ℕ, ◌+◌, ◌-◌, ◌==◌, nat_lt, if◌then◌else◌, List, map, Option, Some, None}
 use Rattle.cv_syntax_trees.specs.declared.head.Head.{Head}
 use Rattle.cv_syntax_trees.specs.declared.head.Head.TheVariants.{In, New}
-use Rattle.cv_syntax_trees.specs.Declarations.{Declaration, Named}
 use Rattle.cv_syntax_trees.specs.Head.{weight}
 use Rattle.cv_syntax_trees.specs.Tree.{Tree, Empty, Node, first_place, second_place, size}
-use Rattle.cv_typing_rules.specs.Signature.{declaration_of}
-use Rattle.cv_scope_rules.specs.Context.{Context, known_at}
-use Rattle.cv_scope_rules.specs.Rules.{Names}
-use Rattle.cv_scope_rules.specs.Scope.{names_of}
-use Rattle.cv_scope_rules.specs.Tests.{reads_in_reach}
 use Rattle.cv_scene.specs.Scenes.{Scene}
 use Rattle.cv_scene.specs.Terms.{replications_at}
 
@@ -36,16 +29,6 @@ choice_in x last q (Node h a b) p =
 
 abbrev pub choice_above : Tree → (x place : ℕ) → Option Choice
 choice_above game x p = choice_in x None 0 game p
-
--- large types
-
-abbrev pub is_large_by : Option Declaration → Bool
-is_large_by (Some (Named T (class.TypeName fixed large) arguments result)) = large
-is_large_by d = false
-
--- the type is declared as `[large]`
-abbrev pub is_large : Scene → (type : ℕ) → Bool
-is_large s T = is_large_by (declaration_of s.declarations T)
 
 -- the parameters of the replications above a place, from the outermost on
 abbrev pub parameters_at : Scene → (place : ℕ) → List ℕ

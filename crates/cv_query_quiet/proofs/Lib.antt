@@ -1,0 +1,4 @@
+pub mod Related
+pub mod Served
+pub mod Shapes
+pub mod Chosen

@@ -1,0 +1,5 @@
+mod Descent
+mod Planned
+mod Terms
+mod Walks
+mod WorkedRows

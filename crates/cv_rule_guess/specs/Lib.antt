@@ -1,0 +1,5 @@
+pub mod Guessing
+pub mod Looks
+pub mod Needs
+pub mod Row
+pub mod Worked
