@@ -1,6 +1,5 @@
 pub mod WithTerms
 pub mod OnlyBranches
-pub mod Lates
 pub mod Listing
 pub mod Descent
 pub mod Elsewhere

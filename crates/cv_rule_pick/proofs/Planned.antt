@@ -22,7 +22,7 @@ use Rattle.cv_rule_names.specs.Naming.{first_naming, is_one_queried}
 use Rattle.cv_rule_pick.specs.Looks.{arm_of, first_elsewhere, is_passed_by}
 use Rattle.cv_rule_pick.specs.Needs.{made_by_arm, made_of_pick, made_with}
 use Rattle.cv_rule_pick.specs.Picking.{Arm, are_indices_at, are_terms_at, arm_place, behind_arm, body_place, equations, first_listed, guards, guards_with, is_inside, lesser, only_arm, own_cells, with_terms}
-use Rattle.cv_rule_pick.specs.Row.{first_other, first_unfit, pick_row, pick_row_by, pick_step}
+use Rattle.cv_rule_pick.specs.Row.{first_other, pick_row, pick_row_by, pick_step}
 use Rattle.cv_rule_pick.specs.Stages.{IsGiven, derived_row, named_row}
 use Rattle.cv_rule_pick.specs.Wanted.{given_cells, put}
 use Rattle.cv_rule_pick.specs.declared.branches.OnlyBranch.{OnlyBranch}
@@ -50,7 +50,7 @@ module _ (trees : List KindTree) (s : Scene) (p : ℕ) (b : OnlyBranch) (g : Giv
 pub ends_so : {A B : Type 0} (S : A → Statement) (W : B → Statement) (xs ts : List A) (ys us : List B) (by targets : Tree) (v : Bool) → v ≡ is_end (map S xs) (map W ys) → xs ≡ ts → ys ≡ us → map S ts ≡ statements (lines_of by) → map W us ≡ statements (lines_of targets) → ends_with by targets ≡ v
 ends_so S W xs ts ys us by targets v e f g h i = sym (e ∙ ap₂ is_end (ap (map S) f ∙ h) (ap (map W) g ∙ i))
 
-module _ (s : Scene) (p : ℕ) (ms d e : Tree) (a : Arm) (x : first_unfit s (body_place p a) d ≡ None) (y : ends_with d (equations (own_cells s p a) ms) ≡ true) (z : first_bad_line (sight_at s p) e ≡ None) where
+module _ (s : Scene) (p : ℕ) (ms d e : Tree) (a : Arm) (x : first_bad_line (sight_at s (body_place p a)) d ≡ None) (y : ends_with d (equations (own_cells s p a) ms) ≡ true) (z : first_bad_line (sight_at s p) e ≡ None) where
   pub derived_is : (v : Bool) → ends_with e (guards_with (own_cells s p a) ms a) ≡ v → (rest : Row) → derived_row s p ms d e a rest ≡ unless v 5 0 rest
   derived_is v w rest = λ i. unless_at 2 (x i) (unless (y i) 3 0 (unless_at 4 (z i) (unless (w i) 5 0 rest)))
 

@@ -2,11 +2,7 @@
 use Rattle.std.specs.Prelude.{ℕ, ◌&&◌, not, Option, Some, None}
 use Rattle.cv_syntax_trees.specs.Tree.{Tree}
 use Rattle.cv_scope_rules.specs.Made.{is_own_at}
-use Rattle.cv_derive_laws.specs.late.Lasting.{first_late_line}
-use Rattle.cv_derive_rules.specs.Ends.{ends_with}
-use Rattle.cv_scene.specs.Derivations.{first_bad_line}
 use Rattle.cv_scene.specs.Scenes.{Scene, has_place, part_at}
-use Rattle.cv_scene.specs.Sights.{sight_at}
 use Rattle.cv_steps.specs.Changes.{change_at}
 use Rattle.cv_steps.specs.Rows.{unless, unless_at, unless_derived}
 use Rattle.cv_steps.specs.Steps.{Fails, Leads, Row, Step, Zero}
@@ -20,22 +16,16 @@ first_other s p a =
     (first_naming (is_own_at (part_at s.game p)) (is_inside s.game (own_cells s p a) (arm_place p) (behind_arm p a)) 0 s.game)
     (first_listed (is_own_at (part_at s.game p)) 0 s.game)
 
--- The first line of the derivation at the body that isn't right, or is by `late`. What it ends with is to hold at each copy of the body
--- that was visited, while `late` speaks of the moment before the visit alone.
-abbrev pub first_unfit : Scene → (place : ℕ) → (by : Tree) → Option ℕ
-first_unfit s p by = lesser (first_bad_line (sight_at s p) by) (first_late_line by)
-
--- That of a branch, with the derivations at its body and at the `find`. An index variable that a query names stands before all
+-- The row of a branch, with the derivations at its body and at the `find`. An index variable that a query names stands before all
 -- places: a file has no such query, but what the step keeps is said of all scenes.
 abbrev pub pick_row_of : Scene → (place : ℕ) → (terms at_body at_find : Tree) → Arm → Row
 pick_row_of s p ms d e a =
     unless (are_indices_at s p a.binders ms) 1 0
-    (unless_at 2 (first_unfit s (body_place p a) d)
-    (unless (ends_with d (equations (own_cells s p a) ms)) 3 0
+    (unless_derived s (body_place p a) d (equations (own_cells s p a) ms) 2 3
     (unless_derived s p e (guards_with (own_cells s p a) ms a) 4 5
     (unless (not (is_one_queried s (is_own_at (part_at s.game p)))) 6 0
     (unless_at 6 (first_other s p a)
-    (Leads (change_at s.game p (λ old. with_terms (own_cells s p a) ms a.body)) Zero))))))
+    (Leads (change_at s.game p (λ old. with_terms (own_cells s p a) ms a.body)) Zero)))))
 
 abbrev pub pick_row_by : Scene → (place : ℕ) → (terms at_body at_find : Tree) → Option Arm → Row
 pick_row_by s p ms d e None = Fails 1 0

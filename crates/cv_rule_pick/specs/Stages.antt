@@ -4,7 +4,6 @@ use Rattle.cv_pool.specs.Nodes.{ChildBelow}
 use Rattle.cv_pool.specs.KindTree.{KindTree}
 use Rattle.cv_syntax_trees.specs.Tree.{Tree, size}
 use Rattle.cv_scope_rules.specs.Made.{is_own_at}
-use Rattle.cv_derive_rules.specs.Ends.{ends_with}
 use Rattle.cv_scene.specs.Scenes.{Scene, part_at}
 use Rattle.cv_scene.specs.Terms.{replications_at}
 use Rattle.cv_steps.specs.Rows.{unless, unless_at, unless_derived}
@@ -14,16 +13,14 @@ use Rattle.cv_edit_places.specs.declared.plan.Failure.{Failure}
 use Rattle.cv_rule_names.specs.Naming.{is_one_queried}
 use Rattle.cv_rule_pick.specs.Looks.{IsLiveBranch, arm_of}
 use Rattle.cv_rule_pick.specs.Picking.{Arm, body_place, equations, guards_with, only_arm, own_cells}
-use Rattle.cv_rule_pick.specs.Row.{first_other, first_unfit}
+use Rattle.cv_rule_pick.specs.Row.{first_other}
 use Rattle.cv_rule_pick.specs.declared.branches.OnlyBranch.{OnlyBranch}
 use Rattle.cv_rule_pick.specs.declared.targets.Given.{Given}
 
 -- what the derivations ask, before the rest of a row
 abbrev pub derived_row : Scene → (place : ℕ) → (terms at_body at_find : Tree) → Arm → Row → Row
 derived_row s p ms d e a rest =
-    unless_at 2 (first_unfit s (body_place p a) d)
-    (unless (ends_with d (equations (own_cells s p a) ms)) 3 0
-    (unless_derived s p e (guards_with (own_cells s p a) ms a) 4 5 rest))
+    unless_derived s (body_place p a) d (equations (own_cells s p a) ms) 2 3 (unless_derived s p e (guards_with (own_cells s p a) ms a) 4 5 rest)
 
 -- what is asked of the names of index variables
 abbrev pub named_row : Scene → (place : ℕ) → Arm → Row → Row

@@ -4,7 +4,6 @@
 mod branches;
 mod cells;
 mod indices;
-mod late;
 mod others;
 mod planning;
 mod putting;

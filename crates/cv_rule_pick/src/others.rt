@@ -185,7 +185,7 @@ fn found(walk: Result<u32, u32>) -> Option<u32>
 }
 
 /// The lesser of two places.
-pub(crate) fn lesser(first: Option<u32>, second: Option<u32>) -> Option<u32>
+fn lesser(first: Option<u32>, second: Option<u32>) -> Option<u32>
     ensures { result ≡ picking.lesser first second }
 {
     let Some(p) = first else {

@@ -19,7 +19,7 @@ ghost use Rattle.cv_edit_places.specs.Plans.{IsPlanned, failed};
 ghost use Rattle.cv_rule_pick.specs.Looks.{IsLiveBranch, IsShortDerivation, arm_of};
 ghost use Rattle.cv_rule_pick.specs.Needs.{made_of_pick, made_with};
 ghost use Rattle.cv_rule_pick.specs.Picking as picking;
-ghost use Rattle.cv_rule_pick.specs.Row.{first_unfit, pick_step};
+ghost use Rattle.cv_rule_pick.specs.Row.{pick_step};
 ghost use Rattle.cv_rule_pick.specs.Stages.{IsGiven, IsStage, derived_row, named_row};
 ghost use Rattle.cv_rule_pick.specs.Wanted.{given_cells, put};
 ghost use Rattle.cv_edit_places.specs.Parts.{AreLive, made_by, stack_of};
@@ -30,8 +30,7 @@ ghost use Rattle.cv_steps.specs.Steps.{Row};
 
 use crate::branches::{OnlyBranch, only_branch};
 use crate::indices::{are_indices, are_terms};
-use crate::late::first_late;
-use crate::others::{Own, first_other, lesser};
+use crate::others::{Own, first_other};
 use crate::putting::add_with_terms;
 use crate::targets::{Given, claims, end_with, wanted_equations, wanted_guards};
 use cv_derive::{DeriveFault, check};
@@ -102,33 +101,6 @@ fn bad_line(
     }
 }
 
-/// The number of the first line of a derivation at a place of a game that isn't right, or is by `late`.
-fn unfit_line(
-    alloc: Global,
-    work: &Work,
-    game: NodeId,
-    arrays: &Arrays,
-    place: u32,
-    by: Option<NodeId>,
-) -> Result<Option<u32>, AllocError>
-    requires live { game.0 < length work.now.pool.trees }
-    requires fits { tree.size (tree_at work.now.pool.trees (Some game)) < 2 ^ 32 }
-    requires declared { All (IsLive (length work.now.pool.trees)) work.now.decls.list }
-    requires formed { IsWellFormed (declarations work.now.pool.trees work.now.decls.list)
-        (tree_at work.now.pool.trees (Some game)) }
-    requires arrays { arrays_of arrays.now
-        ≡ OfGame (sites_of (tree_at work.now.pool.trees (Some game))) }
-    requires entries { IfSome (directory_in arrays.now) (λ d. entries_in work.now.pool.trees d
-        ≡ entries_of (large_in work.now.decls.list)
-        (tree_at work.now.pool.trees (Some game))) }
-    requires by { IsShortDerivation work.now.pool.trees by }
-    ensures { IfOk result (λ line. line ≡ first_unfit
-        (scene_of work.now.pool work.now.decls game) place (tree_at work.now.pool.trees by)) }
-{
-    let bad = bad_line(alloc, work, game, arrays, place, by)?;
-    Ok(lesser(bad, first_late(&work.pool, 1, by)))
-}
-
 /// The place of the body of the only branch of a `find` that stands at a place.
 fn body_place(pool: &Pool, place: u32, branch: OnlyBranch) -> u32
     requires branch { IsLiveBranch (length pool.now.trees) branch }
@@ -171,7 +143,7 @@ fn underived(
 {
     let pool = &work.pool;
     let body = body_place(pool, place, branch);
-    if let Some(line) = unfit_line(alloc, work, game, arrays, body, by.at_body)? {
+    if let Some(line) = bad_line(alloc, work, game, arrays, body, by.at_body)? {
         return Ok(Some(failed(2, line)));
     }
     let said = claims(alloc, pool, by.at_body)?;

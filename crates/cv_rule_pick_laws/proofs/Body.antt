@@ -9,7 +9,6 @@ use Rattle.cv_meaning.specs.Binders.{binder_count, bound_to, fits, widest_binder
 use Rattle.cv_meaning.specs.Candidates.{Candidate, are_assigned, candidate, candidates, candidates_at, is_assigned, most_indices, tuples_up_to, widest}
 use Rattle.cv_meaning.specs.Interpretation.{Interpretation, Setting, setting_of}
 use Rattle.cv_meaning.specs.Memory.{Indices, Local, Store, tuple}
-use Rattle.cv_meaning.specs.Satisfies.{Satisfies}
 use Rattle.cv_meaning.specs.Serving.{Visit}
 use Rattle.cv_meaning.specs.Terms.{is_one, value}
 use Rattle.cv_meaning_runs.specs.Replacement as runs
@@ -21,13 +20,14 @@ use Rattle.cv_scope_rules.specs.Phrases.{Phrase, Arm as OfArm, Binders, Body, Br
 use Rattle.cv_scope_runs.specs.Reads.{IsKept}
 use Rattle.cv_scope_runs.proofs.Standing.{Stands, in_first, in_second}
 use Rattle.cv_derive_laws.specs.stores.Holding.{IsReady}
+use Rattle.cv_derive_laws.specs.stores.Soundness.{DerivationsHold}
 use Rattle.cv_derive_laws.proofs.stores.Sites.{bound_keeps}
 use Rattle.cv_scene.specs.Scenes.{Scene}
 use Rattle.cv_steps.proofs.Flat.{guarded_of, guards_of}
 use Rattle.cv_steps_laws.proofs.Unletted.{is_bare}
 use Rattle.cv_rule_pick.specs.Picking.{with_terms}
 use Rattle.cv_rule_pick_laws.specs.Settling.{IsSettled, same, kept, reworded, in_parallel, in_list, in_find, in_branch}
-use Rattle.cv_rule_pick_laws.proofs.Equal.{HasFacts, IsExpected, equal_there}
+use Rattle.cv_rule_pick_laws.proofs.Equal.{IsExpected, equal_there}
 use Rattle.cv_rule_pick_laws.proofs.Picks as picks
 use Rattle.cv_rule_pick_laws.proofs.Picks.{AllTerms, IsPick}
 use Rattle.cv_rule_pick_laws.proofs.Standing.{IsBelow, first_is_below, second_is_below}
@@ -43,7 +43,7 @@ same_candidates : (g : Setting) (at : Indices) (m : Store) (t u : Tree) → Have
 unfolding candidates
 same_candidates g at m t u h = λ i. flat_map (λ w. h.candidates w 0 i) (tuples_up_to (h.indices i) (h.bounds g.interpretation.parameter_value i))
 
-module _ (s : Scene) (place : ℕ) (ms d e next : Tree) (k : IsPick s place ms d e next) (ready : IsReady s.declarations s.game) (phrases : AllTerms (λ m. is_phrase Term m ≡ true) ms) (i : Interpretation) (sat : Satisfies s.declarations i) (facts : HasFacts) where
+module _ (s : Scene) (place : ℕ) (ms d e next : Tree) (k : IsPick s place ms d e next) (ready : IsReady s.declarations s.game) (phrases : AllTerms (λ m. is_phrase Term m ≡ true) ms) (i : Interpretation) (sound : DerivationsHold s.declarations) where
   abbrev game : Tree
   game = s.game
 
@@ -154,7 +154,7 @@ module _ (s : Scene) (place : ℕ) (ms d e next : Tree) (k : IsPick s place ms d
       → ((l : Local) → SameValues g l.indices l.memory.store σ a (picked a) → SaysTheSame g h a (picked a) l) → IsSettled g V Process (second_place p h a) b (picked b) → IsSettled g V Process p (Node h a b) (picked (Node h a b))
   reworded_here h a b {p = p} {Θ = Θ} st l syn f t σ w says z =
       subst (IsSettled g V Process p (Node h a b)) (sym (node h a b f))
-      (reworded t (λ r v. says r (values_same r.indices r.memory.store (equal_there s place ms d e next k ready phrases i sat facts (record { place = p; tree = Node h a b; before = r }) v Body Θ st l syn) r.memory.store (λ y u j m. m) σ a w)) z)
+      (reworded t (λ r v. says r (values_same r.indices r.memory.store (equal_there s place ms d e next k ready phrases i sound (record { place = p; tree = Node h a b; before = r }) v Body Θ st l syn) r.memory.store (λ y u j m. m) σ a w)) z)
 
   abbrev As : Phrase → ℕ → Tree → Tree → Type 0
   As Inputs p t u = IsSettled g V Process p t u
@@ -197,7 +197,7 @@ module _ (s : Scene) (place : ℕ) (ms d e next : Tree) (k : IsPick s place ms d
       (in_find
       (λ z v.
       same_candidates g z.indices z.memory.store a (picked a)
-      (kept_candidates z.indices z.memory.store (equal_there s place ms d e next k ready phrases i sat facts (record { place = p; tree = Node (Find n) a b; before = z }) v Body Θ st l refl) a (in_first refl st) r.0 v.own))
+      (kept_candidates z.indices z.memory.store (equal_there s place ms d e next k ready phrases i sound (record { place = p; tree = Node (Find n) a b; before = z }) v Body Θ st l refl) a (in_first refl st) r.0 v.own))
       (settled Branches a (in_first refl st) (first_is_below Δ Body (Find n) Θ l) r.0) (settled Body b (in_second refl st) (second_is_below Δ Body (Find n) Θ l a) r.1))
   settled Body t st l w = absurd (both_ways false refl w)
   settled Then (Node Cons a b) {p = p} {Θ = Θ} st l w =

@@ -1,5 +1,5 @@
 -- An accepted step keeps chances.
-use Rattle.std.proofs.Common.{◌≡◌, ℕ, ◌+◌, ◌<◌, ◌≤◌, ◌&&◌, ◌||◌, not, Bool, true, false, List, [], ◌∷◌, map, ◌⊎◌, inl, inr, nat_lt, refl, sym, ap, ap₂, subst, ◌∙◌, arith, lt-ltb, le-ltb}
+use Rattle.std.proofs.Common.{◌≡◌, ℕ, ◌+◌, ◌<◌, ◌≤◌, ◌&&◌, ◌||◌, not, Bool, true, false, List, [], ◌∷◌, map, Some, ◌⊎◌, inl, inr, nat_lt, refl, sym, ap, ap₂, subst, ◌∙◌, arith, lt-ltb, le-ltb}
 use Rattle.std.proofs.lemmas.Bool.{both_ways, and_parts}
 use Rattle.std.proofs.lemmas.List.Elements.{All-nil, All-cons, All-head, All-tail, All-weaker}
 use Rattle.std.specs.List.{All, AllByRecursion, list_any}
@@ -16,7 +16,7 @@ use Rattle.cv_meaning.specs.Interpretation.{Interpretation, Setting, setting_of}
 use Rattle.cv_meaning.specs.Memory.{Indices, Store}
 use Rattle.cv_meaning.specs.Queries.{queries_in}
 use Rattle.cv_meaning.specs.Replaced.{is_output}
-use Rattle.cv_meaning.specs.Runs.{Adversary, Mode}
+use Rattle.cv_meaning.specs.Runs.{Adversary, Mode, State}
 use Rattle.cv_meaning.specs.Satisfies.{Satisfies}
 use Rattle.cv_meaning.specs.Serving.{Visit}
 use Rattle.cv_meaning.specs.Still.{is_still}
@@ -45,7 +45,6 @@ use Rattle.cv_scope_runs.specs.Promises.{CandidatesHold, GrowsToEnd}
 use Rattle.cv_scope_runs.proofs.ConsultedOnce.{all_own_unassigned}
 use Rattle.cv_scope_runs.proofs.FactsRuns.{all_candidates_hold, all_grow_to_last}
 use Rattle.cv_scope_runs.proofs.ServeRuns.{VisitHolds, game_holds}
-use Rattle.cv_derive_facts.specs.Promises.{VisitSitesStand}
 use Rattle.cv_derive_laws.specs.stores.Holding.{HoldAtVisit, IsReady}
 use Rattle.cv_derive_laws.specs.stores.Reached.{HasTypes}
 use Rattle.cv_derive_laws.specs.stores.Soundness.{DerivationsHold}
@@ -65,7 +64,8 @@ use Rattle.cv_rule_pick.specs.Picking.{Arm, arm_place, is_inside, with_terms}
 use Rattle.cv_rule_pick_laws.specs.Settling.{IsSettled, decided, in_branch, same as settled_same}
 use Rattle.cv_rule_pick_laws.proofs.Body.{settled}
 use Rattle.cv_rule_pick_laws.proofs.Changes.{Between, between, cells_same, replaced_copies, settled_at, with_copies}
-use Rattle.cv_rule_pick_laws.proofs.Equal.{HasFacts, IsExpected}
+use Rattle.cv_rule_pick_laws.proofs.Equal.{IsExpected, IsKnown}
+use Rattle.cv_rule_pick_laws.proofs.Makers.{IsMade, run_assigns}
 use Rattle.cv_rule_pick_laws.proofs.Names.{with_unread}
 use Rattle.cv_rule_pick_laws.proofs.Picks as picks
 use Rattle.cv_rule_pick_laws.proofs.Picks.{AllTerms, IsPick, branches_tree, guards_tree, terms_weaker}
@@ -216,7 +216,7 @@ module _ (s : Scene) (place : ℕ) (ms d e next : Tree) (k : IsPick s place ms d
   thinned : IsThinned xs Process step.tree after
   thinned = thinned_at xs both new place (merged (picks.binds_own s place ms d e next k ready i, refl, tt) new_output (same new_unread)) Process 0 step.tree after after_unread step.second
 
-  module _ (sat : Satisfies s.declarations i) (sound : DerivationsHold s.declarations) (facts : HasFacts) where
+  module _ (sat : Satisfies s.declarations i) (sound : DerivationsHold s.declarations) where
     abbrev V : Visit → Type 0
     V = IsExpected s i ready
 
@@ -227,28 +227,57 @@ module _ (s : Scene) (place : ℕ) (ms d e next : Tree) (k : IsPick s place ms d
     settled_there : IsSettled g V Process place old both
     settled_there =
         subst (λ t. IsSettled g V Process place t both) (sym (picks.find s place ms d e next k ready i).is)
-        (decided {b = otherwise} (λ l v. same_bodies l.indices l.memory.store) (λ l v c. takes s place ms d e next k ready terms phrases i sat sound facts l v c)
-        (in_branch (settled s place ms d e next k ready phrases i sat facts Body a.body (picks.body_stands s place ms d e next k ready i) (below_same (picks.Δ s place ms d e next k ready i)) (picks.phrases s place ms d e next k ready i).body) settled_same))
+        (decided {b = otherwise} (λ l v. same_bodies l.indices l.memory.store) (λ l v c. takes s place ms d e next k ready terms phrases i sat sound l v c)
+        (in_branch (settled s place ms d e next k ready phrases i sound Body a.body (picks.body_stands s place ms d e next k ready i) (below_same (picks.Δ s place ms d e next k ready i)) (picks.phrases s place ms d e next k ready i).body) settled_same))
 
     whole : IsSettled g V Process 0 game step.tree
     whole = settled_at g V old both place settled_there Process 0 game step.tree step.first
 
     -- the visits are as expected
-    all_expected : (vs : List Visit) → AllByRecursion (VisitHolds g (is_variable game) game (picks.fine s place ms d e next k ready i)) vs → AllByRecursion OwnUnassigned vs → AllByRecursion (CandidatesHold g game) vs → AllByRecursion (VisitSitesStand g game) vs → AllByRecursion (HasTypes s.declarations game i) vs → AllByRecursion (HoldAtVisit s i) vs → AllByRecursion V vs
-    all_expected [] a b c o p q = tt
-    all_expected (v ∷ vs) a b c o p q = (record { holds = a.0; own = b.0; candidates = c.0; sites = o.0; types = p.0; derived = q.0 }, all_expected vs a.1 b.1 c.1 o.1 p.1 q.1)
-
-    expected_on : (m : Mode) (b : Adversary) (t : Tape) → AllByRecursion (HasTypes s.declarations game i) (visits_of_run g m b game t) → AllByRecursion (HoldAtVisit s i) (visits_of_run g m b game t) → AllByRecursion V (visits_of_run g m b game t)
-    unfolding visits_of_run
-    expected_on m b t p q =
-        let w = picks.context s place ms d e next k ready i in
-        let moves = b.next (coins_on t 0 b.coins) in
-        all_expected _ (game_holds g (is_variable game) game (picks.fine s place ms d e next k ready i) m moves t b.moves).passes.visits (all_own_unassigned s.declarations g m moves t b.moves game w)
-        (all_candidates_hold s.declarations g m moves t b.moves game refl w) (facts.sites s.declarations g m b game t refl w) p q
 
     grown : (m : Mode) (b : Adversary) (t : Tape) → AllByRecursion (GrowsToEnd (run g m b game t)) (visits_of_run g m b game t)
     unfolding visits_of_run run
     grown m b t = all_grow_to_last s.declarations g m (b.next (coins_on t 0 b.coins)) t b.moves game refl (picks.context s place ms d e next k ready i)
+
+    held : (m : Mode) (b : Adversary) (t : Tape) → AllByRecursion (VisitHolds g (is_variable game) game (picks.fine s place ms d e next k ready i)) (visits_of_run g m b game t)
+    unfolding visits_of_run
+    held m b t = (game_holds g (is_variable game) game (picks.fine s place ms d e next k ready i) m (b.next (coins_on t 0 b.coins)) t b.moves).passes.visits
+
+    own : (m : Mode) (b : Adversary) (t : Tape) → AllByRecursion OwnUnassigned (visits_of_run g m b game t)
+    unfolding visits_of_run
+    own m b t = all_own_unassigned s.declarations g m (b.next (coins_on t 0 b.coins)) t b.moves game (picks.context s place ms d e next k ready i)
+
+    candidates_there : (m : Mode) (b : Adversary) (t : Tape) → AllByRecursion (CandidatesHold g game) (visits_of_run g m b game t)
+    unfolding visits_of_run
+    candidates_there m b t = all_candidates_hold s.declarations g m (b.next (coins_on t 0 b.coins)) t b.moves game refl (picks.context s place ms d e next k ready i)
+
+    module _ (t : Tape) (last : State) where
+      abbrev Known : Visit → Type 0
+      Known = IsKnown s i ready last.memory
+
+      all_known : (vs : List Visit) → AllByRecursion (VisitHolds g (is_variable game) game (picks.fine s place ms d e next k ready i)) vs → AllByRecursion (HoldAtVisit s i) vs → AllByRecursion (GrowsToEnd last) vs → AllByRecursion Known vs
+      all_known [] a b c = tt
+      all_known (v ∷ vs) a b c = (record { holds = a.0; derived = b.0; kept = c.0.store }, all_known vs a.1 b.1 c.1)
+
+      all_expected : ((y : ℕ) (u : List ℕ) (n : ℕ) → last.memory.store y u ≡ Some n → IsMade g t Known y u) → (vs : List Visit) → AllByRecursion Known vs → AllByRecursion OwnUnassigned vs → AllByRecursion (CandidatesHold g game) vs → AllByRecursion (HasTypes s.declarations game i) vs → AllByRecursion V vs
+      all_expected makers [] a b c o = tt
+      all_expected makers (v ∷ vs) a b c o = (
+        record {
+          holds = a.0.holds;
+          own = b.0;
+          candidates = c.0;
+          types = o.0;
+          derived = a.0.derived;
+          made = λ y u n f. record { tape = t; last = last.memory; kept = a.0.kept; made = makers y u n (a.0.kept y u n f) };
+        },
+        all_expected makers vs a.1 b.1 c.1 o.1,
+      )
+
+    expected_on : (m : Mode) (b : Adversary) (t : Tape) → AllByRecursion (HasTypes s.declarations game i) (visits_of_run g m b game t) → AllByRecursion (HoldAtVisit s i) (visits_of_run g m b game t) → AllByRecursion V (visits_of_run g m b game t)
+    expected_on m b t p q =
+        let last : State = run g m b game t in
+        let known : AllByRecursion (IsKnown s i ready last.memory) (visits_of_run g m b game t) = all_known t last (visits_of_run g m b game t) (held m b t) q (grown m b t) in
+        all_expected t last (λ y u n f. run_assigns g t (IsKnown s i ready last.memory) y u n m b game known f) (visits_of_run g m b game t) known (own m b t) (candidates_there m b t) p
 
     expected : (m : Mode) (b : Adversary) → All (λ t. AllByRecursion V (visits_of_run g m b game t)) (tapes_of (cells g m b game) blank)
     expected m b =
@@ -287,7 +316,7 @@ module _ (s : Scene) (place : ℕ) (ms d e next : Tree) (k : IsPick s place ms d
         chance_with (context_of s.declarations game) s.declarations i x b game plain.tree after (typed_names (context_of s.declarations game) game ready.formed.phrase (typed s.declarations game ready.arguments ready.formed ready.typed ready.names))
         (λ give. replaced_included g give old a.body place (body_included give) Process 0 game plain.tree plain.first) (plain_cells (mode_of x) b) w (alike x b asked)
 
-pub pick_keeps : (s : Scene) (place : ℕ) (ms d e next : Tree) → IsReady s.declarations s.game → DerivationsHold s.declarations → HasFacts → is_phrase Inputs next ≡ true → AllTerms (λ m. is_term_at s place m ≡ true) ms → IsPick s place ms d e next → KeepsChances s.declarations s.game next
-pick_keeps s place ms d e next ready sound facts w terms k i sat x asked b =
+pub pick_keeps : (s : Scene) (place : ℕ) (ms d e next : Tree) → IsReady s.declarations s.game → DerivationsHold s.declarations → is_phrase Inputs next ≡ true → AllTerms (λ m. is_term_at s place m ≡ true) ms → IsPick s place ms d e next → KeepsChances s.declarations s.game next
+pick_keeps s place ms d e next ready sound w terms k i sat x asked b =
     subst (λ t. Same (chance_of (setting_of s.declarations i) x b s.game) (chance_of (setting_of s.declarations i) x b t)) k.leads
-    (after_keeps s place ms d e next k ready terms i sat sound facts (ap (is_phrase Inputs) k.leads ∙ w) x asked b)
+    (after_keeps s place ms d e next k ready terms i sat sound (ap (is_phrase Inputs) k.leads ∙ w) x asked b)

@@ -1,20 +1,19 @@
 -- Where the index variables of a branch are named at its place and by reads at the current indices in it alone, and no list has a cell
 -- of one.
-use Rattle.std.proofs.Common.{◌≡◌, ℕ, ◌+◌, ◌<◌, ◌≤◌, ◌==◌, ◌&&◌, ◌||◌, not, Bool, true, false, cond, List, [], ◌∷◌, ◌++◌, ◌⊎◌, inl, inr, Option, Some, None, refl, sym, ap, ap₂, subst, ◌∙◌, arith, eqb-true}
+use Rattle.std.proofs.Common.{◌≡◌, ℕ, ◌<◌, ◌≤◌, ◌==◌, ◌&&◌, ◌||◌, not, Bool, true, false, cond, List, [], ◌∷◌, ◌⊎◌, inl, inr, Option, Some, None, refl, sym, ap, ap₂, subst, ◌∙◌, arith, eqb-true}
 use Rattle.std.proofs.lemmas.Bool.{both_ways, and_parts, or_cases, or_left, or_right}
 use Rattle.std.proofs.lemmas.List.Folds.{list_any-append}
 use Rattle.std.specs.List.{AllByRecursion, list_any}
 use Rattle.cv_syntax_trees.specs.declared.head.Head.{Head}
 use Rattle.cv_syntax_trees.specs.declared.head.Head.TheVariants.{Repl, In, New, Let, Branch, Leaf, Read, Binder, Key, Call}
 use Rattle.cv_syntax_trees.specs.Head.{weight}
-use Rattle.cv_syntax_trees.specs.Tree.{Tree, Empty, Node, first_place, head_reads_only, reads_only, same_tree, second, second_place, size}
+use Rattle.cv_syntax_trees.specs.Tree.{Tree, Empty, Node, first_place, head_reads_only, reads_only, same_tree, second, second_place}
 use Rattle.cv_syntax_trees.proofs.Equality.{same_tree_exact}
-use Rattle.cv_syntax.proofs.Walking.{weight_le}
 use Rattle.cv_directory_sorts.specs.Sites.{first_of}
 use Rattle.cv_meaning.specs.Interpretation.{Setting}
 use Rattle.cv_meaning_chances.specs.unread.Dropping.{reads_none}
 use Rattle.cv_scope_rules.specs.Context.{Context, replications_below}
-use Rattle.cv_scope_rules.specs.Made.{is_bound, made_at, made_by}
+use Rattle.cv_scope_rules.specs.Made.{is_bound, made_by}
 use Rattle.cv_scope_rules.specs.Phrases.{Phrase}
 use Rattle.cv_scope_rules.specs.Rules.{InReach, is_index}
 use Rattle.cv_scope_rules.specs.Scope.{is_variable}
@@ -26,9 +25,7 @@ use Rattle.cv_scope_runs.proofs.Contexts.{game_names, not_constant}
 use Rattle.cv_scope_runs.proofs.Games.{Game, has_parts, new_index, stands_phrase}
 use Rattle.cv_scope_runs.proofs.Rows.{position_of}
 use Rattle.cv_scope_runs.proofs.Standing.{Stands, root, in_first, in_second}
-use Rattle.cv_derive_facts.specs.Definitions.{places_of}
 use Rattle.cv_scene.specs.Instances.{is_read_of}
-use Rattle.cv_scene.specs.Scenes.{part_at}
 use Rattle.cv_scene.specs.Sights.{variable_of}
 use Rattle.cv_steps.specs.Unletting.{has_cell_of, is_listed}
 use Rattle.cv_steps_derivations.proofs.unletting.Lists.{adds_none, unlisted}
@@ -39,7 +36,6 @@ use Rattle.cv_rule_names.specs.Naming.{binds_one, first_naming, is_between, name
 use Rattle.cv_rule_merge.proofs.Named.{IsUnnamed, parts_unnamed}
 use Rattle.cv_rule_pick.specs.Picking.{first_cell, first_listed, is_inside, is_one, lesser, term_of, with_terms}
 use Rattle.cv_rule_pick_laws.proofs.Terms.{AllBoth, IsRead, reads, term_has, with_kept, with_term}
-use Rattle.cv_lists.proofs.Numbers.{below_or_not}
 
 -- no place
 
@@ -163,67 +159,6 @@ module _ (g : Setting) (game : Tree) (fine : Game g (is_variable game) game) (xs
   only_there {h = h} {a = a} {b = b} st x m k =
       let o = made_other h a x m in
       elim (inside st (made_named xs h a x m k) o.0) [ inl e ↦ e | inr e ↦ absurd (both_ways (reads h) o.1 (cell_read (Node h a b) cs are e)) ]
-
-  -- the places of its definitions
-
-  module _ (x : ℕ) (k : xs x ≡ true) where
-    no_places : (t : Tree) {q : ℕ} {σ : Phrase} {Γ : Context} (st : Stands game q σ Γ t) → (arm < q) ⊎ (q + size t ≤ arm) → places_of x q t ≡ []
-    unfolding places_of size
-    no_places Empty st l = refl
-    no_places (Node h a b) {q = q} {σ = σ} st l =
-        let r = has_parts σ h a b (stands_phrase g (is_variable game) game fine st) in
-        go (made_by h a (Variable x)) refl (no_places a (in_first r.1 st) (before l)) (no_places b (in_second r.1 st) (after l))
-      where
-        before : (arm < q) ⊎ (q + (weight h + size a + size b) ≤ arm) → (arm < first_place q h) ⊎ (first_place q h + size a ≤ arm)
-        before (inl m) = inl (omega arith)
-        before (inr m) = inr (omega arith)
-
-        after : (arm < q) ⊎ (q + (weight h + size a + size b) ≤ arm) → (arm < second_place q h a) ⊎ (second_place q h a + size b ≤ arm)
-        after (inl m) = inl (omega arith)
-        after (inr m) = inr (omega arith)
-
-        other : (arm < q) ⊎ (q + (weight h + size a + size b) ≤ arm) → weight h ≡ 1 → q ≡ arm → ⊥
-        other (inl m) w e = absurd (omega arith)
-        other (inr m) w e = absurd (omega arith)
-
-        go : (v : Bool) → made_by h a (Variable x) ≡ v → places_of x (first_place q h) a ≡ [] → places_of x (second_place q h a) b ≡ []
-            → cond v (q ∷ []) [] ++ (places_of x (first_place q h) a ++ places_of x (second_place q h a) b) ≡ []
-        go true m e f = absurd (other l (made_other h a x m).0 (only_there st x m k))
-        go false m e f = ap₂ ◌++◌ e f
-
-    module _ (us rest : Tree) (there : part_at game arm ≡ Node Branch us rest) (bound : is_bound us x ≡ true) where
-      pub one_place : (t : Tree) {q : ℕ} {σ : Phrase} {Γ : Context} (st : Stands game q σ Γ t) → q ≤ arm → arm < q + size t → places_of x q t ≡ arm ∷ []
-      unfolding places_of size
-      one_place Empty st l m = absurd (omega arith)
-      one_place (Node h a b) {q = q} {σ = σ} {Γ = Γ} st l m =
-          let r = has_parts σ h a b (stands_phrase g (is_variable game) game fine st) in
-          go (made_by h a (Variable x)) refl (no_places a (in_first r.1 st)) (no_places b (in_second r.1 st)) (one_place a (in_first r.1 st)) (one_place b (in_second r.1 st))
-        where
-          -- the branch defines it
-          this : arm < q + weight h → made_by h a (Variable x) ≡ true
-          this n =
-              let w : weight h ≡ 1 = (let z = weight_le h in omega arith) in
-              let e : q ≡ arm = (let z = weight_le h in omega arith) in
-              let same : Node h a b ≡ Node Branch us rest = sym (part_there game q σ Γ h a b st w) ∙ (ap (part_at game) e ∙ there) in
-              ap (λ t. made_at t (Variable x)) same ∙ bound
-
-          go : (v : Bool) → made_by h a (Variable x) ≡ v
-              → ((arm < first_place q h) ⊎ (first_place q h + size a ≤ arm) → places_of x (first_place q h) a ≡ [])
-              → ((arm < second_place q h a) ⊎ (second_place q h a + size b ≤ arm) → places_of x (second_place q h a) b ≡ [])
-              → (first_place q h ≤ arm → arm < first_place q h + size a → places_of x (first_place q h) a ≡ arm ∷ [])
-              → (second_place q h a ≤ arm → arm < second_place q h a + size b → places_of x (second_place q h a) b ≡ arm ∷ [])
-              → cond v (q ∷ []) [] ++ (places_of x (first_place q h) a ++ places_of x (second_place q h a) b) ≡ arm ∷ []
-          go true f na nb fa fb =
-              let w = (made_other h a x f).0 in
-              let e : q ≡ arm = only_there st x f k in
-              ap₂ (λ z ps. z ∷ ps) e (ap₂ ◌++◌ (na (inl (omega arith))) (nb (inl (omega arith))))
-          go false f na nb fa fb = by_place (below_or_not arm (first_place q h)) (below_or_not arm (second_place q h a))
-            where
-              by_place : (arm < first_place q h) ⊎ (first_place q h ≤ arm) → (arm < second_place q h a) ⊎ (second_place q h a ≤ arm)
-                  → places_of x (first_place q h) a ++ places_of x (second_place q h a) b ≡ arm ∷ []
-              by_place (inl n) o = absurd (both_ways (made_by h a (Variable x)) f (this n))
-              by_place (inr n) (inl o) = ap₂ ◌++◌ (fa n (omega arith)) (nb (inl o))
-              by_place (inr n) (inr o) = ap₂ ◌++◌ (na (inr (omega arith))) (fb o (omega arith))
 
   -- above a place before the branch none of their cells is known
 

@@ -28,7 +28,6 @@ use Rattle.cv_scene.specs.Scenes.{Scene, part_at}
 use Rattle.cv_scene.specs.Sights.{sight_at, variable_of}
 use Rattle.cv_scene.specs.Terms.{is_sort, is_term_at, replications_at, replications_by}
 use Rattle.cv_derive_rules.specs.Ends.{ends_with}
-use Rattle.cv_derive_laws.specs.late.Lasting.{first_late_line}
 use Rattle.cv_derive_laws.specs.stores.Holding.{IsReady}
 use Rattle.cv_steps.specs.Changes.{change_at}
 use Rattle.cv_steps.specs.Rewriting.{sort_at}
@@ -43,7 +42,7 @@ use Rattle.cv_steps_derivations.proofs.unletting.Sites.{part_there}
 use Rattle.cv_rule_names.specs.Reach.{is_in_scope, is_in_scope_at, is_in_scope_by}
 use Rattle.cv_rule_names.specs.Naming.{first_naming, is_one_queried}
 use Rattle.cv_rule_pick.specs.Picking.{Arm, are_indices_at, are_terms_at, arm_place, behind_arm, body_place, equations, first_listed, guards_with, is_inside, only_arm, own_cells, term_of, with_terms}
-use Rattle.cv_rule_pick.specs.Row.{first_other, first_unfit, pick_row, pick_row_by}
+use Rattle.cv_rule_pick.specs.Row.{first_other, pick_row, pick_row_by}
 use Rattle.cv_rule_pick_laws.proofs.Names.{ArePaired, above_none, neither, no_index, not_listed, scope_unread}
 use Rattle.cv_rule_pick_laws.proofs.Standing.{IsPlace, find_body, stands_old}
 use Rattle.cv_rule_pick_laws.proofs.Terms.{AllBoth, IsRead, cells_read, none_other}
@@ -56,7 +55,6 @@ pub record IsPick (s : Scene) (place : ℕ) (ms d e next : Tree) : Type 0 where
   pub stands : only_arm (part_at s.game place) ≡ Some arm
   pub indices : are_indices_at s place arm.binders ms ≡ true
   pub at_body : Derives (sight_at s (body_place place arm)) d (equations (own_cells s place arm) ms)
-  pub lasting : first_late_line d ≡ None
   pub at_find : Derives (sight_at s place) e (guards_with (own_cells s place arm) ms arm)
   pub unasked : is_one_queried s (is_own_at (part_at s.game place)) ≡ false
   pub named : first_naming (is_own_at (part_at s.game place)) (is_inside s.game (own_cells s place arm) (arm_place place) (behind_arm place arm)) 0 s.game ≡ None
@@ -71,8 +69,7 @@ pick_leads s place ms d e next cost r = go (only_arm (part_at s.game place)) ref
     go (Some a) f r =
         let cs : List Tree = own_cells s place a in
         let q = unless_leads (are_indices_at s place a.binders ms) 1 0 _ next cost r in
-        let o = unless_at_leads 2 (first_unfit s (body_place place a) d) _ next cost q.1 in
-        let fit = neither (first_bad_line (sight_at s (body_place place a)) d) (first_late_line d) o.0 in
+        let o = unless_at_leads 2 (first_bad_line (sight_at s (body_place place a)) d) _ next cost q.1 in
         let p = unless_leads (ends_with d (equations cs ms)) 3 0 _ next cost o.1 in
         let n = unless_at_leads 4 (first_bad_line (sight_at s place) e) _ next cost p.1 in
         let m = unless_leads (ends_with e (guards_with cs ms a)) 5 0 _ next cost n.1 in
@@ -83,8 +80,7 @@ pick_leads s place ms d e next cost r = go (only_arm (part_at s.game place)) ref
           arm = a;
           stands = f;
           indices = q.0;
-          at_body = record { right = fit.0; end = p.0 };
-          lasting = fit.1;
+          at_body = record { right = o.0; end = p.0 };
           at_find = record { right = n.0; end = m.0 };
           unasked = not-true (is_one_queried s (is_own_at (part_at s.game place))) l.0;
           named = z.0;

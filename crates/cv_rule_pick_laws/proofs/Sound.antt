@@ -32,8 +32,7 @@ use Rattle.cv_derive_laws.specs.stores.Steps.{IsSound}
 use Rattle.cv_rule_names.specs.Naming.{is_one_queried}
 use Rattle.cv_scope_rules.specs.Made.{is_own_at}
 use Rattle.cv_rule_pick.specs.Picking.{Arm as OnlyArm, are_indices_at, body_place, equations, guards_with, only_arm, own_cells, term_of, with_terms}
-use Rattle.cv_rule_pick.specs.Row.{first_other, first_unfit, pick_row_by, pick_step}
-use Rattle.cv_rule_pick_laws.proofs.Equal.{HasFacts}
+use Rattle.cv_rule_pick.specs.Row.{first_other, pick_row_by, pick_step}
 use Rattle.cv_rule_pick_laws.proofs.Keeping.{pick_keeps}
 use Rattle.cv_rule_pick_laws.proofs.Picks.{AllTerms, IsFind, IsPick, arm_phrases, both_from, branches_tree, find_of, guards_tree, pick_leads, terms_typed, terms_weaker}
 use Rattle.cv_rule_pick_laws.proofs.Terms.{IsRead, cells_read, term_has, with_bare, with_kept, with_term}
@@ -144,19 +143,19 @@ pick_free : (s : Scene) (p : ℕ) (ms d e : Tree) (a : Option OnlyArm) → IsFre
 pick_free s p ms d e None = free_fails 1 0
 pick_free s p ms d e (Some a) =
     free_unless (are_indices_at s p a.binders ms) 1 0 _
-    (free_unless_at 2 (first_unfit s (body_place p a) d) _
+    (free_unless_at 2 (first_bad_line (sight_at s (body_place p a)) d) _
     (free_unless (ends_with d (equations (own_cells s p a) ms)) 3 0 _
     (free_unless_at 4 (first_bad_line (sight_at s p) e) _
     (free_unless (ends_with e (guards_with (own_cells s p a) ms a)) 5 0 _
     (free_unless (not (is_one_queried s (is_own_at (part_at s.game p)))) 6 0 _
     (free_unless_at 6 (first_other s p a) _ (free_leads _)))))))
 
-pub pick_sound : HasFacts → (p : ℕ) (ms d e : Tree) → IsSound (pick_step p ms d e)
+pub pick_sound : (p : ℕ) (ms d e : Tree) → IsSound (pick_step p ms d e)
 unfolding HasDeclaredSorts HasValuesIn
-pick_sound facts p ms d e = record {
+pick_sound p ms d e = record {
   keeps = λ s next cost ready holds unreached knows r.
       let z = taken s p ms d e next cost r in
-      kept_costs s.declarations s.game next cost (pick_keeps s p ms d e next ready holds facts (next_formed s (pick_step p ms d e) next cost r).phrase z.terms z.pick);
+      kept_costs s.declarations s.game next cost (pick_keeps s p ms d e next ready holds (next_formed s (pick_step p ms d e) next cost r).phrase z.terms z.pick);
   taped = λ s next cost r i sat. free_taped _ (pick_free s p ms d e (only_arm (part_at s.game p))) next cost (accepted s (pick_step p ms d e) next cost r).row i;
   declared = λ s next cost w f r.
       let z = taken s p ms d e next cost r in

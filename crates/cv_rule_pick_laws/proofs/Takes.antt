@@ -48,7 +48,7 @@ use Rattle.cv_scene.specs.Scenes.{Scene}
 use Rattle.cv_scene.specs.Terms.{is_sort, is_term_at}
 use Rattle.cv_steps.specs.Rewriting.{sort_at}
 use Rattle.cv_rule_pick.specs.Picking.{Arm, arm_place, guards, guards_with, with_terms}
-use Rattle.cv_rule_pick_laws.proofs.Equal.{HasFacts, IsExpected, names_readable, one_context}
+use Rattle.cv_rule_pick_laws.proofs.Equal.{IsExpected, names_readable, one_context}
 use Rattle.cv_rule_pick_laws.proofs.Names.{with_unread}
 use Rattle.cv_rule_pick_laws.proofs.Picks as picks
 use Rattle.cv_rule_pick_laws.proofs.Picks.{AllIndices, AllTerms, AreMatched, IsPick, branches_tree, guards_tree, indices_matched, indices_sorted, terms_weaker}
@@ -99,7 +99,7 @@ bound_aside xs u x y e (Node (Binder z T) a b) (v ∷ vs) f = let r = and_parts 
 bound_aside xs u x y e (Node h a b) vs f = absurd (both_ways false refl f)
 
 module _ (s : Scene) (place : ℕ) (ms d e next : Tree) (k : IsPick s place ms d e next) (ready : IsReady s.declarations s.game) (typed : AllTerms (λ m. is_term_at s place m ≡ true) ms) (phrases : AllTerms (λ m. is_phrase Term m ≡ true) ms) (i : Interpretation)
-    (sat : Satisfies s.declarations i) (sound : DerivationsHold s.declarations) (facts : HasFacts) where
+    (sat : Satisfies s.declarations i) (sound : DerivationsHold s.declarations) where
   abbrev game : Tree
   game = s.game
 
@@ -192,7 +192,7 @@ module _ (s : Scene) (place : ℕ) (ms d e next : Tree) (k : IsPick s place ms d
     equal =
         pairs_equal g at m n cs ms own_values
         (terms_weaker (λ t. Readable g var at m t) (λ t. value g at n t ≡ value g at m t) (λ t r. value_kept g var at m at n (store_extends g var at m n kept) t r) ms
-        (names_readable s place ms d e next k ready phrases i sat facts at m l.memory.events matches holds))
+        (names_readable s place ms d e next k ready phrases i sound at m l.memory.events matches holds))
 
     agree : AgreeOn (λ z. not (xs z)) n m
     agree = bound_aside xs (tuple at) m m (λ y u f. refl) a.binders vs (picks.binds_own s place ms d e next k ready i)

@@ -60,6 +60,14 @@ lists_itself = found_nowhere (read 4 (copy_of 11 ∷ []) ∷ read 11 (copy_of 11
 abbrev pub sends_unseen : Tree
 sends_unseen = found_nowhere (read 12 (copy_of 11 ∷ []) ∷ []) (sends_copy (read 12 (copy_of 11 ∷ []))) (Node (New 12 5) Empty yields)
 
+-- find suchthat defined(12[1]) then the body else new 12
+abbrev pub before_nonce : (body : Tree) → Tree
+before_nonce body = find 2 (branch [] (copy_of 12 ∷ []) yes body ∷ []) (Node (New 12 5) Empty yields)
+
+-- find 11 <= 2 suchthat defined(4[11[1]]) then yield else yield
+abbrev pub found_any : Tree
+found_any = find 1 (branch ((11, 2) ∷ []) (read 4 (copy_of 11 ∷ []) ∷ []) yes yields ∷ []) yields
+
 -- a process behind the nonce, below the replication, with more declarations
 abbrev pub copies_with : List Declaration → Tree → Scene
 copies_with more process = scene_of (Named 2 class.Param Empty None ∷ more) (copies process)
@@ -101,22 +109,22 @@ both_at_find =
 abbrev pub nowhere_at_body : List Tree
 nowhere_at_body = line (same (copy_of 11) (leaf 1)) (one ByFact 2) ∷ []
 
--- the other branch's nonce comes later, so `false` is derived by `late` too
-abbrev pub late_at_body : List Tree
-late_at_body =
-    line no (one ByFact 1)
-    ∷ is_there (copy_of 12) (one ByExfalso 1)
-    ∷ line no (late 2 [])
-    ∷ line (same (copy_of 11) (leaf 1)) (one ByFact 2)
-    ∷ []
-
 abbrev pub nowhere_at_find : (cells : List Tree) → List Tree
 nowhere_at_find cells = line no (one ByFact 1) ∷ (map (λ c. is_there c (one ByExfalso 1)) cells ++ line (same (leaf 1) (leaf 1)) (lone ByRefl) ∷ [])
+
+-- The cell of 12 is defined at the own index and yet assigned later, so `false` holds.
+
+abbrev pub late_at_body : List Tree
+late_at_body = is_there (copy_of 12) (lone ByHere) ∷ line no (late 1 []) ∷ line (same (copy_of 11) (leaf 1)) (one ByExfalso 2) ∷ []
+
+abbrev pub late_at_find : List Tree
+late_at_find = is_there (copy_of 12) (lone ByHere) ∷ line no (late 1 []) ∷ is_there (copy_of 4) (one ByExfalso 2) ∷ line yes (lone ByBool) ∷ []
 
 abbrev pub pick : (place : ℕ) → (terms at_body at_find : List Tree) → Step
 pick p ms d e = pick_step p (chain ms) (chain d) (chain e)
 
--- The `find` stands at 3, its branch at 4, the body at 12; as the first body of a test the `find` stands at 5, and a second one at 16.
+-- The `find` stands at 3, its branch at 4, the body at 12; as the first body of a test the `find` stands at 5, and a second one at 16;
+-- as the body of another `find` it stands at 8.
 abbrev pub picks : List (Scene × Step × Judgement)
 picks =
     (copies_of (found sends_found), pick 3 own at_body at_find, Accepted (copies (sends_copy (copy_of 4))) Zero)
@@ -135,6 +143,7 @@ picks =
       pick 3 own at_body at_find,
       Accepted (copies (tests 2 (copy_of 4))) Zero,
     )
+    ∷ (copies_of (before_nonce found_any), pick 8 own late_at_body late_at_find, Accepted (copies (before_nonce yields)) Zero)
     -- no place; a name that is nowhere; a `new`; two branches; two terms; a term of a type; the index itself
     ∷ (copies_of (found sends_found), pick 20 own at_body at_find, Refused 0 0)
     ∷ (copies_of (found sends_found), pick 3 (leaf 40 ∷ []) at_body at_find, Refused 0 0)
@@ -143,13 +152,12 @@ picks =
     ∷ (copies_of (found sends_found), pick 3 (leaf 1 ∷ leaf 1 ∷ []) at_body at_find, Refused 1 0)
     ∷ (copies_of (found sends_found), pick 3 (copy_of 4 ∷ []) at_body at_find, Refused 1 0)
     ∷ (copies_of (found sends_found), pick 3 (copy_of 11 ∷ []) at_body at_find, Refused 1 0)
-    -- no such fact; a line by `late`; no line; no such fact at the `find`; another order
+    -- no such fact; no line; no such fact at the `find`; another order
     ∷ (
       copies_of (found sends_found),
       pick 3 own (line (same (copy_of 11) (leaf 1)) (one ByFact 2) ∷ []) at_find,
       Refused 2 1,
     )
-    ∷ (copies_of sends_unseen, pick 5 own late_at_body (nowhere_at_find (copy_of 12 ∷ [])), Refused 2 3)
     ∷ (copies_of (found sends_found), pick 3 own [] at_find, Refused 3 0)
     ∷ (
       copies_of (found sends_found),

@@ -7,7 +7,7 @@ ghost use Rattle.cv_rule_pick.specs.Row.{pick_step};
 ghost use Rattle.cv_rule_pick_laws.specs.Worked.{picks};
 
 /// A `find` of one branch may become its body, with terms for its index variables, where a derivation at the
-/// body without `late` shows that each index variable is its term, and one at the `find` that with these terms
+/// body shows that each index variable is its term, and one at the `find` that with these terms
 /// the cells are defined and the condition holds: so it takes this branch, with the values of these terms.
 pub fn picking_is_sound()
     ensures { (place : ℕ) (terms at_body at_find : Tree) →
