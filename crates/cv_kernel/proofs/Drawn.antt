@@ -1,5 +1,5 @@
 -- The names that are drawn along a trail, with a step more, and where a trail leads.
-use Rattle.std.proofs.Common.{◌≡◌, ℕ, Bool, List, [], ◌∷◌, ◌++◌, map, Option, Some, None, option_and_then, refl, ap, sym, ◌∙◌, subst}
+use Rattle.std.proofs.Common.{◌≡◌, ℕ, Bool, false, List, [], ◌∷◌, ◌++◌, map, Option, Some, None, option_and_then, refl, ap, sym, ◌∙◌, subst}
 use Rattle.std.proofs.lemmas.List.{map-append}
 use Rattle.cv_syntax_trees.specs.Declarations.{Declaration}
 use Rattle.cv_syntax_trees.specs.Tree.{Tree}
@@ -10,9 +10,14 @@ use Rattle.cv_script.specs.Views.{StepItems, items_of_step}
 use Rattle.cv_script.specs.Views as items
 use Rattle.cv_steps.specs.Sequences.{scene}
 use Rattle.cv_kernel.specs.Closings.{Closing, closing_failure, closing_of_items, judgement_by_closing, judgement_of_failure}
-use Rattle.cv_kernel.specs.Drawings.{Draws, DrawsAlong, game_after, told}
+use Rattle.cv_kernel.specs.Drawings.{Draws, DrawsAlong, DrawsBefore, game_after, told}
 use Rattle.cv_kernel.specs.Proofs.{IsProof, Transition, closed_by, game_behind, push, start}
 use Rattle.cv_kernel.specs.Sayings.{Accepted, MaySay, saying_of}
+
+-- before a step of a proof block the table stays
+pub block_before : (names : List (List ℕ)) (own : ℕ) (game : Tree) (o : Option StepItems) → DrawsBefore false names names own game o
+block_before names own game (Some (items.ArrayRename x to)) = refl
+block_before names own game o = refl
 
 -- the game that steps lead to
 abbrev pub last_told : Tree → List (Tree × Option Tree) → Tree
@@ -23,13 +28,13 @@ last_put : (game : Tree) (ts : List (Tree × Option Tree)) (t : Tree × Option T
 last_put game [] t = refl
 last_put game (u ∷ ts) t = last_put (game_after u.1 game) ts t
 
-module _ (ds : List Declaration) (known : ℕ → Bool) (own : ℕ) where
-  pub drawn_put : (game : Tree) (ts : List (Tree × Option Tree)) (t : Tree × Option Tree) (a b c : List (List ℕ)) → DrawsAlong ds known own game ts a b → Draws b c own (scene ds known (last_told game ts)) (items_of_step t.0) (game_after t.1 (last_told game ts)) → DrawsAlong ds known own game (ts ++ t ∷ []) a c
-  drawn_put game [] t a b c h d = (c, subst (λ x. Draws x c own (scene ds known game) (items_of_step t.0) (game_after t.1 game)) h d, refl)
+module _ (found : Bool) (ds : List Declaration) (known : ℕ → Bool) (own : ℕ) where
+  pub drawn_put : (game : Tree) (ts : List (Tree × Option Tree)) (t : Tree × Option Tree) (a b c : List (List ℕ)) → DrawsAlong found ds known own game ts a b → Draws found b c own (scene ds known (last_told game ts)) (items_of_step t.0) (game_after t.1 (last_told game ts)) → DrawsAlong found ds known own game (ts ++ t ∷ []) a c
+  drawn_put game [] t a b c h d = (c, subst (λ x. Draws found x c own (scene ds known game) (items_of_step t.0) (game_after t.1 game)) h d, refl)
   drawn_put game (u ∷ ts) t a b c h d = (h.0, h.1, drawn_put (game_after u.1 game) ts t h.0 b c h.2 d)
 
-  pub drawn_before : (game : Tree) (ts : List (Tree × Option Tree)) (t : Tree × Option Tree) (a c : List (List ℕ)) → DrawsAlong ds known own game (ts ++ t ∷ []) a c → (b : List (List ℕ)) × DrawsAlong ds known own game ts a b × Draws b c own (scene ds known (last_told game ts)) (items_of_step t.0) (game_after t.1 (last_told game ts))
-  drawn_before game [] t a c h = (a, refl, subst (λ x. Draws a x own (scene ds known game) (items_of_step t.0) (game_after t.1 game)) (sym h.2) h.1)
+  pub drawn_before : (game : Tree) (ts : List (Tree × Option Tree)) (t : Tree × Option Tree) (a c : List (List ℕ)) → DrawsAlong found ds known own game (ts ++ t ∷ []) a c → (b : List (List ℕ)) × DrawsAlong found ds known own game ts a b × Draws found b c own (scene ds known (last_told game ts)) (items_of_step t.0) (game_after t.1 (last_told game ts))
+  drawn_before game [] t a c h = (a, refl, subst (λ x. Draws found a x own (scene ds known game) (items_of_step t.0) (game_after t.1 game)) (sym h.2) h.1)
   drawn_before game (u ∷ ts) t a c h = let r = drawn_before (game_after u.1 game) ts t h.0 c h.2 in (r.0, (h.0, h.1, r.1), r.2)
 
 -- a step that closes a query stays in its game, and any other leads to the next one

@@ -1,6 +1,7 @@
 pub mod Answered
 pub mod Countable
 mod Nodes
+mod Listed
 mod Planned
 mod Settled
 pub mod Answers

@@ -1,6 +1,7 @@
 -- How a game changes by a step that stands by itself, where all its conditions hold.
-use Rattle.std.proofs.Common.{◌≡◌, ℕ, ◌<◌, ◌≤◌, ◌^◌, Bool, false, if◌then◌else◌, List, length, Some, None, Result, Ok, Err, refl, sym, ap, ◌∙◌, subst, arith}
+use Rattle.std.proofs.Common.{◌≡◌, ℕ, ◌<◌, ◌≤◌, ◌^◌, Bool, true, false, ◌&&◌, nat_lt, if◌then◌else◌, List, length, Some, None, Result, Ok, Err, refl, sym, ap, ◌∙◌, subst, arith}
 use Rattle.std.proofs.lemmas.Bool.Decides.{nat_tests}
+use Rattle.std.specs.List.{list_all}
 use Rattle.std.specs.Prelude.{IfErr, IfOk, IsErrAnd, OnOk}
 use Rattle.cv_pool.specs.declared.node.NodeId.{NodeId}
 use Rattle.cv_pool.specs.KindTree.{KindTree}
@@ -24,9 +25,11 @@ use Rattle.cv_edit.specs.declared.edit.Edit.TheVariants as edit
 use Rattle.cv_kernel.specs.declared.error.RuleError.{RuleError}
 use Rattle.cv_kernel.specs.declared.error.RuleError.TheVariants as rule
 use Rattle.cv_kernel.specs.Answers.{IsEdit, IsEditPlan, IsUnplanned}
+use Rattle.cv_kernel.specs.Places.{has_long}
 use Rattle.cv_kernel.specs.Rules.{Rule}
 use Rattle.cv_kernel.specs.Steps.{IsShort}
 use Rattle.cv_kernel.proofs.Fits.{let_fits, new_fits, replace_fits, split_fits}
+use Rattle.cv_kernel.proofs.Listed.{not_all_there}
 use Rattle.cv_kernel.proofs.Nodes.{size_nodes}
 
 pub short_size : (t : Tree) → IsShort t → size t < 2 ^ 31
@@ -35,6 +38,16 @@ short_size t l = omega (arith, l, size_nodes t)
 -- a place that no game has
 pub absent : (p : ℕ) (s : Scene) → size s.game ≤ p → has_place s p ≡ false
 absent p s l = grind (arith, nat_tests)
+
+no_middle : (a b c : Bool) → b ≡ false → (a && (b && c)) ≡ false
+no_middle true false c e = refl
+no_middle true true c e = absurd (cc)
+no_middle false b c e = refl
+
+-- places of which one has more than 32 bits are not all in a game
+pub no_such_places : (s : Scene) → size s.game ≤ 50000 → (a c : Bool) (ps : List ℕ) → has_long ps ≡ true → (a && (list_all (has_place s) ps && c)) ≡ false
+no_such_places s l a c ps e =
+    no_middle a (list_all (has_place s) ps) c (not_all_there (has_place s) (λ p f. absent p s (grind (arith, nat_tests, l, f))) ps e)
 
 module _ (trees : List KindTree) (s : Scene) where
   -- an edit, where the conditions of a rule were tested

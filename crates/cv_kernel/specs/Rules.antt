@@ -16,13 +16,18 @@ use Rattle.cv_edit_changes.specs.unletting.Games.{need_unletting}
 use Rattle.cv_edit_names.specs.Needs.{need_splitting}
 use Rattle.cv_rule_array_names.specs.Row.{array_names_step}
 use Rattle.cv_rule_array_names.specs.Sites.{listed_names}
+use Rattle.cv_rule_birthday.specs.Needs.{need_comparing}
+use Rattle.cv_rule_birthday.specs.Row.{birthday_step}
 use Rattle.cv_rule_codef.specs.Needs.{need_codef}
 use Rattle.cv_rule_codef.specs.Row.{codef_step}
 use Rattle.cv_rule_fresh.specs.collisions.Fresh.{fresh_step}
+use Rattle.cv_rule_guess.specs.Needs.{need_guessing}
+use Rattle.cv_rule_guess.specs.Row.{guess_step}
 use Rattle.cv_rule_merge.specs.Row.{merge_step, need_merging}
 use Rattle.cv_rule_move.specs.Steps.{move_step, need_moving}
 use Rattle.cv_rule_pick.specs.Needs.{need_picking}
 use Rattle.cv_rule_pick.specs.Row.{pick_step}
+use Rattle.cv_kernel.specs.Places.{listed_numbers}
 
 pub record Rule : Type 0 where
   pub step : Step
@@ -50,11 +55,15 @@ rule_of_items (items.Codef p adds to from above) = Some (record { step = codef_s
 rule_of_items (items.ArrayRename x to) = Some (record { step = array_names_step x (listed_names to); need = need_splitting x (listed_names to) })
 rule_of_items (items.Pick p ms d e) = Some (record { step = pick_step p ms d e; need = need_picking p ms })
 rule_of_items (items.Fresh p) = Some (record { step = fresh_step p; need = need_at p 1 })
+rule_of_items (items.Birthday x at) = Some (record { step = birthday_step x (listed_numbers at); need = need_comparing (listed_numbers at) })
+rule_of_items (items.Guess x at) = Some (record { step = guess_step x (listed_numbers at); need = need_guessing x (listed_numbers at) })
 rule_of_items other = None
 
 -- a step that costs something isn't free
 abbrev pub IsFree : StepItems → Type 0
 IsFree (items.Fresh p) = ⊥
+IsFree (items.Birthday x at) = ⊥
+IsFree (items.Guess x at) = ⊥
 IsFree i = Unit {0}
 
 -- that of the step that a tree is

@@ -5,6 +5,7 @@ mod applying;
 mod closing;
 mod elementary;
 mod error;
+mod places;
 mod planning;
 mod reducing;
 mod rooms;

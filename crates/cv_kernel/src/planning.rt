@@ -15,7 +15,9 @@ ghost use Rattle.cv_kernel.specs.Steps.{AreShort};
 
 use crate::elementary::{after_let, after_new, pruned, rewritten, split, tested};
 use crate::error::RuleError;
-use crate::rooms::{codefined, merged, missed, moved, picked, split_definitions};
+use crate::rooms::{
+    codefined, compared, guessed, merged, missed, moved, picked, split_definitions,
+};
 use cv_bound::Cost;
 use cv_edit::Edit;
 use cv_edit_places::Failure;
@@ -154,6 +156,8 @@ pub(crate) fn plan(
 {
     match view {
         StepView::Fresh { place } => missed(alloc, work, game, arrays, place),
+        StepView::Birthday { x, at } => compared(alloc, work, game, arrays, x.0, at),
+        StepView::Guess { x, at } => guessed(alloc, work, game, arrays, x.0, at),
         _ => {
             let edit = free_edit(alloc, work, game, arrays, view)?;
             Ok(at_no_cost(edit))

@@ -17,12 +17,15 @@ ghost use Rattle.cv_kernel.specs.Steps.{IsShort};
 ghost use Rattle.cv_rule.specs.Prepared.{IsPrepared};
 
 use crate::error::RuleError;
-use crate::planning::{StepPlan, place_in};
+use crate::places::places_in;
+use crate::planning::{StepPlan, place_in, refused};
 use cv_edit::Edit;
 use cv_edit_places::{Change, Failure, Priced};
 use cv_rule_array_names as array_names;
+use cv_rule_birthday as comparing;
 use cv_rule_codef as codefining;
 use cv_rule_fresh as missing;
+use cv_rule_guess as guessing;
 use cv_rule_merge as merging;
 use cv_rule_move as moving;
 use cv_rule_pick as picking;
@@ -185,4 +188,48 @@ pub(crate) fn missed(
 {
     let place = place_in(number)?;
     priced_at(place, missing::plan(alloc, work, game, arrays, place)?)
+}
+
+/// How a `birthday` changes a game, and what it costs.
+pub(crate) fn compared(
+    alloc: Global,
+    work: &Work,
+    game: NodeId,
+    arrays: &Arrays,
+    x: u32,
+    list: Option<NodeId>,
+) -> Result<StepPlan, RuleError>
+    requires prepared { IsPrepared work.now.pool.trees work.now.decls game arrays.now }
+    requires small { size (tree_at work.now.pool.trees (Some game)) ≤ 50000 }
+    requires declared { All (IsLive (length work.now.pool.trees)) work.now.decls.list }
+    requires list { ChildBelow (length work.now.pool.trees) list }
+    ensures { IsPlan work.now.pool.trees (scene_of work.now.pool work.now.decls game)
+        (rule_of_items (items.Birthday x (tree_at work.now.pool.trees list))) result }
+{
+    let Some(places) = places_in(alloc, &work.pool, list)? else {
+        return Err(refused(0));
+    };
+    priced_at(0, comparing::plan(alloc, work, game, arrays, x, &places)?)
+}
+
+/// How a `guess` changes a game, and what it costs.
+pub(crate) fn guessed(
+    alloc: Global,
+    work: &Work,
+    game: NodeId,
+    arrays: &Arrays,
+    x: u32,
+    list: Option<NodeId>,
+) -> Result<StepPlan, RuleError>
+    requires prepared { IsPrepared work.now.pool.trees work.now.decls game arrays.now }
+    requires small { size (tree_at work.now.pool.trees (Some game)) ≤ 50000 }
+    requires declared { All (IsLive (length work.now.pool.trees)) work.now.decls.list }
+    requires list { ChildBelow (length work.now.pool.trees) list }
+    ensures { IsPlan work.now.pool.trees (scene_of work.now.pool work.now.decls game)
+        (rule_of_items (items.Guess x (tree_at work.now.pool.trees list))) result }
+{
+    let Some(places) = places_in(alloc, &work.pool, list)? else {
+        return Err(refused(0));
+    };
+    priced_at(0, guessing::plan(alloc, work, game, arrays, x, &places)?)
 }

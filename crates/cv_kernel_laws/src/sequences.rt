@@ -24,13 +24,13 @@ pub fn drawn_next_games_are_one()
         NoRepeat after }
 {}
 
-/// So accepted steps lead from one game and one table of names to one sequence of games, each at one cost, with one
-/// context and one table.
+/// So accepted steps, all found or all of a proof block, lead from one game and one table of names to one sequence of games, each at
+/// one cost, with one context and one table.
 pub fn accepted_steps_lead_to_one_sequence()
-    ensures { (ds : List Declaration) (known : ℕ → Bool) (own : ℕ) (first g h : Tree)
-        (ts us : List Transition) (before after other : List (List ℕ)) → NoRepeat before →
-        IsProof ds known first ts g → IsProof ds known first us h →
+    ensures { (found : Bool) (ds : List Declaration) (known : ℕ → Bool) (own : ℕ)
+        (first g h : Tree) (ts us : List Transition) (before after other : List (List ℕ)) →
+        NoRepeat before → IsProof ds known first ts g → IsProof ds known first us h →
         map (λ t. t.step) ts ≡ map (λ t. t.step) us →
-        DrawsAlong ds known own first (map told ts) before after →
-        DrawsAlong ds known own first (map told us) before other → (ts ≡ us) × (after ≡ other) }
+        DrawsAlong found ds known own first (map told ts) before after →
+        DrawsAlong found ds known own first (map told us) before other → (ts ≡ us) × (after ≡ other) }
 {}

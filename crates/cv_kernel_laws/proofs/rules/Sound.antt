@@ -4,13 +4,16 @@ use Rattle.cv_script.specs.Views.{StepItems}
 use Rattle.cv_script.specs.Views as items
 use Rattle.cv_derive_laws.specs.stores.Steps.{IsSound}
 use Rattle.cv_rule_array_names_laws.proofs.Sound.{array_names_sound}
+use Rattle.cv_rule_birthday_laws.proofs.Sound.{birthday_sound}
 use Rattle.cv_rule_codef.proofs.Sound.{codef_sound}
 use Rattle.cv_rule_fresh.proofs.Sound.{fresh_sound}
+use Rattle.cv_rule_guess_laws.proofs.Sound.{guess_sound}
 use Rattle.cv_rule_merge.proofs.Sound.{merge_sound}
 use Rattle.cv_rule_move.proofs.Sound.{move_sound}
 use Rattle.cv_rule_array_names.specs.Sites.{listed_names}
-use Rattle.cv_rule_pick_laws.proofs.Facts.{picked_sound}
+use Rattle.cv_rule_pick_laws.proofs.Sound.{pick_sound}
 use Rattle.cv_sequences.proofs.soundness.Sound.{let_sound, new_sound, prune_sound, rename_sound, rewrite_sound, split_sound, unlet_sound, unnew_sound}
+use Rattle.cv_kernel.specs.Places.{listed_numbers}
 use Rattle.cv_kernel.specs.Rules.{Rule, part_of, rule_of_items}
 
 that : (q r : Rule) → Some q ≡ Some r → IsSound q.step → IsSound r.step
@@ -29,6 +32,8 @@ sound (items.Move p) r e = that _ r e (move_sound p)
 sound (items.Merge p) r e = that _ r e (merge_sound p)
 sound (items.Codef p adds to from above) r e = that _ r e (codef_sound p adds above to from)
 sound (items.ArrayRename x to) r e = that _ r e (array_names_sound x (listed_names to))
-sound (items.Pick p ms d f) r e = that _ r e (picked_sound p ms d f)
+sound (items.Pick p ms d f) r e = that _ r e (pick_sound p ms d f)
 sound (items.Fresh p) r e = that _ r e (fresh_sound p)
+sound (items.Birthday x at) r e = that _ r e (birthday_sound x (listed_numbers at))
+sound (items.Guess x at) r e = that _ r e (guess_sound x (listed_numbers at))
 sound i r e = absurd (cc)

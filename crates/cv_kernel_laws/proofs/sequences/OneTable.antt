@@ -38,7 +38,7 @@ with_one names t u = go (is_among names t) refl
     go true e = u
     go false e = NoRepeat_append names t u (λ n h. both_ways (is_among names t) e (is_among_has names t n h))
 
-with_all : (names ts : List (List ℕ)) → NoRepeat names → NoRepeat (with_texts names ts)
+pub with_all : (names ts : List (List ℕ)) → NoRepeat names → NoRepeat (with_texts names ts)
 with_all names [] u = u
 with_all names (t ∷ ts) u = with_all (with_text names t) ts (with_one names t u)
 

@@ -23,7 +23,7 @@ built_script_row = 159
 
 -- how many of the steps, from the first one on, have a rule
 abbrev pub steps_with_a_rule : ℕ
-steps_with_a_rule = 17
+steps_with_a_rule = 19
 
 abbrev pub script_rows : Table
 script_rows =

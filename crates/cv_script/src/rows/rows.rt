@@ -232,7 +232,7 @@ const BUILT_STEPS: u16 = 158;
 /// The row of a script whose steps have a rule.
 pub const BUILT_SCRIPT: u16 = 159;
 /// How many of the steps, from the first one on, have a rule.
-const BUILT: u16 = 17;
+const BUILT: u16 = 19;
 /// How many rows the table has.
 const ROWS: usize = 160;
 

@@ -257,15 +257,15 @@ codefs l d =
     )))) refl
     ))
 
-birthdays : (l : List Tree) → Made 128 l → HasItems is_any (over head.BirthdayStep l)
+birthdays : (l : List Tree) → Made 128 l → HasItems is_built (over head.BirthdayStep l)
 birthdays l d =
     let x = take (skip (skip d)) in
-    with_first is_any head.BirthdayStep x (has (Birthday x.first.0 (single x.rest)) (bound (λ y. Some (Birthday y (single x.rest))) (name_is x.first) refl) refl)
+    with_first is_built head.BirthdayStep x (has (Birthday x.first.0 (single x.rest)) (bound (λ y. Some (Birthday y (single x.rest))) (name_is x.first) refl) refl)
 
-guesses : (l : List Tree) → Made 129 l → HasItems is_any (over head.GuessStep l)
+guesses : (l : List Tree) → Made 129 l → HasItems is_built (over head.GuessStep l)
 guesses l d =
     let x = take (skip (skip d)) in
-    with_first is_any head.GuessStep x (has (Guess x.first.0 (single x.rest)) (bound (λ y. Some (Guess y (single x.rest))) (name_is x.first) refl) refl)
+    with_first is_built head.GuessStep x (has (Guess x.first.0 (single x.rest)) (bound (λ y. Some (Guess y (single x.rest))) (name_is x.first) refl) refl)
 
 freshes : (l : List Tree) → Made 130 l → HasItems is_built (over head.FreshStep l)
 freshes l d = let p = last (skip (skip d)) in with_one is_built head.FreshStep p (has (Fresh p.first.0) (bound (λ v. Some (Fresh v)) (number_is p.first) refl) refl)
@@ -300,7 +300,7 @@ any_items d = record { items = d.items; are = d.are; pass = refl }
 any_step : (ts : List Tree) → IsStep is_built ts → IsStep is_any ts
 any_step ts x = record { tree = x.tree; is = x.is; first = any_items x.first }
 
--- The rows of steps, each with what it makes: those that have a rule, and the later ones.
+-- The rows of steps, each with what it makes.
 
 record StepRow (test : StepItems → Bool) : Type 0 where
   row : ℕ
@@ -325,19 +325,15 @@ rows_with_a_rule =
     ∷ record { row = 148; makes = a_step is_built head.SimplifyStep 148 133 refl simplifies }
     ∷ record { row = 149; makes = a_step is_built head.PickStep 149 118 refl picks }
     ∷ record { row = 150; makes = a_step is_built head.FreshStep 150 130 refl freshes }
-    ∷ []
-
-abbrev later_rows : List (StepRow is_any)
-later_rows =
-    record { row = 151; makes = a_step is_any head.BirthdayStep 151 128 refl birthdays }
-    ∷ record { row = 152; makes = a_step is_any head.GuessStep 152 129 refl guesses }
+    ∷ record { row = 151; makes = a_step is_built head.BirthdayStep 151 128 refl birthdays }
+    ∷ record { row = 152; makes = a_step is_built head.GuessStep 152 129 refl guesses }
     ∷ []
 
 abbrev any_row : StepRow is_built → StepRow is_any
 any_row s = record { row = s.row; makes = λ ts d. any_step ts (s.makes ts d) }
 
 abbrev all_rows : List (StepRow is_any)
-all_rows = map any_row rows_with_a_rule ++ later_rows
+all_rows = map any_row rows_with_a_rule
 
 -- one of the rows of a list, which follow each other in the table
 

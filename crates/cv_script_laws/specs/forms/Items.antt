@@ -1,7 +1,7 @@
 -- Which steps have items, and which of them have a rule.
 use Rattle.std.specs.Prelude.{◌≡◌, Bool, true, false, Some}
 use Rattle.cv_syntax_trees.specs.Tree.{Tree}
-use Rattle.cv_script.specs.Views.{StepItems, ArrayRename, Codef, Crypto, Fresh, Split, Success, Let, Merge, Move, New, Pick, Rename, Simplify, Unlet, Unnew, Rewrite, Prune, items_of_step}
+use Rattle.cv_script.specs.Views.{StepItems, ArrayRename, Birthday, Codef, Crypto, Fresh, Guess, Split, Success, Let, Merge, Move, New, Pick, Rename, Simplify, Unlet, Unnew, Rewrite, Prune, items_of_step}
 
 -- the steps that have a rule
 abbrev pub is_built : StepItems → Bool
@@ -22,7 +22,8 @@ is_built (ArrayRename x to) = true
 is_built (Pick p ms d e) = true
 is_built Simplify = true
 is_built (Fresh p) = true
-is_built i = false
+is_built (Birthday x ps) = true
+is_built (Guess x ps) = true
 
 -- all steps
 abbrev pub is_any : StepItems → Bool
