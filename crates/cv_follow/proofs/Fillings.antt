@@ -10,6 +10,7 @@ use Rattle.cv_accept.specs.Works.{content_nodes}
 use Rattle.cv_bound.specs.costs.Sums.{no_sums}
 use Rattle.cv_bound.specs.closings.Queries.{first_unclosed, numbers_of, sum_in}
 use Rattle.cv_kernel.specs.Drawings.{DrawsAlong}
+use Rattle.cv_kernel.proofs.Drawn.{block_before}
 use Rattle.cv_kernel.specs.Proofs.{closed_by, nodes_along}
 use Rattle.cv_kernel.specs.Reducings.{reducing_in}
 use Rattle.cv_kernel.specs.Sequences.{IsPushed, Same, Stands, game_in, needed_for}
@@ -37,7 +38,7 @@ use Rattle.cv_syntax.specs.Declarations.{declarations}
 use Rattle.cv_syntax.specs.declared.work.Work.{Work}
 use Rattle.cv_syntax.specs.PoolTrees.{tree_at}
 use Rattle.cv_syntax_trees.specs.Declarations.{Declaration}
-use Rattle.cv_syntax_trees.specs.declared.head.Head.TheVariants.{MergeStep, PruneStep, RewriteStep, UnletStep, UnnewStep}
+use Rattle.cv_syntax_trees.specs.declared.head.Head.TheVariants.{BirthdayStep, FreshStep, GuessStep, MergeStep, PruneStep, RewriteStep, UnletStep, UnnewStep}
 use Rattle.cv_syntax_trees.specs.Tree.{Node, Tree}
 use Rattle.cv_syntax_trees.specs.Tree as tree_parts
 use Rattle.cv_follow.specs.declared.searching.Tried.{Tried}
@@ -96,7 +97,7 @@ fills_plain _ _ n (settled t found script steps e f d) = absurd (let i = sym e �
 
 -- a step is taken behind those that were found
 
-module _ (start old new : Work) (first : Tree) (below : All (IsBelow (length start.pool.trees)) start.decls.list) (s mid t : Sequence) (trail : List Entry) (same : Same s mid) (may : MayTry old s) (step : Step) (live : step.0.0 < length old.pool.trees) (h : HasFound start old first s trail) where
+module _ (start old new : Work) (first : Tree) (below : All (IsBelow (length start.pool.trees)) start.decls.list) (s mid t : Sequence) (trail : List Entry) (same : Same s mid) (may : MayTry old s) (step : Step) (live : step.0.0 < length old.pool.trees) (h : HasFound false start old first s trail) where
   abbrev tree : Tree
   tree = tree_at old.pool.trees (Some step.0)
 
@@ -109,8 +110,8 @@ module _ (start old new : Work) (first : Tree) (below : All (IsBelow (length sta
         let a = found_again start old old first s mid trail trail h may.stands.live forgot in
         let m = may_again old old s mid trail trail may forgot in
         record {
-          next = found_more start old new first below mid t trail a.again step live after u m p n g stands few names decls draws alone;
-          put = found_put start old new first below mid t trail a.again step live after u m p n g stands few names decls draws alone ∙ ap (λ (xs : List Tree). xs ++ tree ∷ []) a.found;
+          next = found_more start old new first below mid t trail a.again step live after u m p n g stands few names decls old.names (block_before old.names old.decls.own (game_in old.pool.trees mid) (items_of_step tree)) draws alone;
+          put = found_put start old new first below mid t trail a.again step live after u m p n g stands few names decls old.names (block_before old.names old.decls.own (game_in old.pool.trees mid) (items_of_step tree)) draws alone ∙ ap (λ (xs : List Tree). xs ++ tree ∷ []) a.found;
         }
 
   pub takes_ends : (e : PushError) (end : Status) → IsPushed old.pool old.decls new.pool.trees mid t tree (Err e) → stop_of e mid.steps ≡ Some end → new.pool.trees ≡ old.pool.trees → IsKept old new mid t trail trail → EndsNext start old new first s trail h tree end
@@ -136,8 +137,8 @@ settles_passed old new step s t trail after which e w = (w.0, λ start first bel
 
 -- a run ends by a step in the same way where nothing was taken before
 
-module _ (start old mid new : Work) (first : Tree) (s t : Sequence) (trail after : List Entry) (h : HasFound start old first s trail) (live : s.game.root.0 < length old.pool.trees) (k : IsKept old mid s t trail after) where
-  pub ends_before : (step : Tree) (end : Status) (i : HasFound start mid first t after) → i.found ≡ h.found → i.followed.proof ≡ h.followed.proof → EndsNext start mid new first t after i step end → EndsNext start old new first s trail h step end
+module _ (start old mid new : Work) (first : Tree) (s t : Sequence) (trail after : List Entry) (h : HasFound false start old first s trail) (live : s.game.root.0 < length old.pool.trees) (k : IsKept old mid s t trail after) where
+  pub ends_before : (step : Tree) (end : Status) (i : HasFound false start mid first t after) → i.found ≡ h.found → i.followed.proof ≡ h.followed.proof → EndsNext start mid new first t after i step end → EndsNext start old new first s trail h step end
   ends_before step end i e p w =
       let ds : List Declaration = declarations start.pool.trees start.decls.list in
       let own : ℕ → Bool = known_to start.decls.own in
@@ -145,7 +146,7 @@ module _ (start old mid new : Work) (first : Tree) (s t : Sequence) (trail after
       (subst (λ x. Stops (length new.pool.trees) (length h.found) (scene ds own x) (closed_by i.followed.proof) step end) (game_stays old mid s t k.grows k.sequence live)
       (subst (λ (xs : List Tree). Stops (length new.pool.trees) (length xs) (scene ds own (game_in mid.pool.trees t)) (closed_by i.followed.proof) step end) e w))
 
-  pub ends_behind : (step : Tree) (end : Status) (i : HasFound start mid first t after) → i.found ≡ h.found → i.followed.proof ≡ h.followed.proof → EndsNext start old new first s trail h step end → EndsNext start mid new first t after i step end
+  pub ends_behind : (step : Tree) (end : Status) (i : HasFound false start mid first t after) → i.found ≡ h.found → i.followed.proof ≡ h.followed.proof → EndsNext start old new first s trail h step end → EndsNext start mid new first t after i step end
   ends_behind step end i e p w =
       let ds : List Declaration = declarations start.pool.trees start.decls.list in
       let own : ℕ → Bool = known_to start.decls.own in
@@ -236,7 +237,7 @@ fills_next start old new first below front x s t trail after h false e w =
 abbrev asked : Work → List Tree
 asked w = map (λ n. tree_at w.pool.trees (Some n)) (queries w.decls.list)
 
-module _ (start now : Work) (first : Tree) (s : Sequence) (trail : List Entry) (h : HasFound start now first s trail) (w : Walk) (put : w.trail.items ≡ trail) (said : w.verdicts.items ≡ verdicts_by (sum_in s.closed) 1 (queries now.decls.list)) where
+module _ (start now : Work) (first : Tree) (s : Sequence) (trail : List Entry) (h : HasFound false start now first s trail) (w : Walk) (put : w.trail.items ≡ trail) (said : w.verdicts.items ≡ verdicts_by (sum_in s.closed) 1 (queries now.decls.list)) where
   abbrev ds : List Declaration
   ds = declarations start.pool.trees start.decls.list
 
@@ -245,7 +246,7 @@ module _ (start now : Work) (first : Tree) (s : Sequence) (trail : List Entry) (
     steps = steps;
     fills = f;
     walk = i;
-    drawn = subst (λ (es : List Entry). DrawsAlong ds (known_to start.decls.own) start.decls.own first (map led (map (entry_in now.pool.trees) es)) start.names now.names) (sym put) h.drawn;
+    drawn = subst (λ (es : List Entry). DrawsAlong false ds (known_to start.decls.own) start.decls.own first (map led (map (entry_in now.pool.trees) es)) start.names now.names) (sym put) h.drawn;
     grows = h.grows;
     names = h.names;
     decls = h.decls;
@@ -375,6 +376,9 @@ settling_built queries (Node MergeStep a b) e = bound_built queries (number_in a
 settling_built queries (Node UnnewStep a b) e = bound_built queries (name_in a) _ (λ x. refl)
 settling_built queries (Node UnletStep a b) e = bound_built queries (name_in a) _ (λ x. refl)
 settling_built queries (Node RewriteStep a b) e = bound_built queries (number_in a) _ (λ p. bound_built queries (tree_in (tree_parts.first b)) _ (λ m. refl))
+settling_built queries (Node BirthdayStep a b) e = bound_built queries (name_in a) _ (λ x. refl)
+settling_built queries (Node GuessStep a b) e = bound_built queries (name_in a) _ (λ x. refl)
+settling_built queries (Node FreshStep a b) e = bound_built queries (number_in a) _ (λ p. refl)
 settling_built queries t e = absurd (cc)
 
 any_both : (p : Tree → Bool) (xs ys : List Tree) → list_any p xs ≡ false → list_any p ys ≡ false → list_any p (xs ++ ys) ≡ false

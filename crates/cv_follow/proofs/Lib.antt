@@ -6,5 +6,7 @@ pub mod Walked
 pub mod NamesKept
 pub mod QueryLists
 pub mod Growing
+pub mod NewNames
 pub mod Tries
+pub mod ReadySteps
 pub mod Fillings

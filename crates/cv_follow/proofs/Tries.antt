@@ -9,7 +9,7 @@ use Rattle.cv_accept.proofs.Blocks.{below_grown, declarations_grown, root_grown}
 use Rattle.cv_accept.specs.Accepted.{most_pool}
 use Rattle.cv_bound.specs.closings.Queries.{first_unclosed, numbers_of, sum_in}
 use Rattle.cv_bound.specs.declared.closings.queries.ClosedQuery.{ClosedQuery}
-use Rattle.cv_kernel.specs.Drawings.{DrawsAlong}
+use Rattle.cv_kernel.specs.Drawings.{DrawsAlong, DrawsBefore}
 use Rattle.cv_kernel.specs.Proofs.{IsProof, Transition, closed_by, sum_of}
 use Rattle.cv_kernel.specs.Reducings.{reducing_in}
 use Rattle.cv_kernel.specs.Sequences.{AreModest, IsPushed, Same, Stands, game_in, needed_for}
@@ -157,13 +157,13 @@ may_next old new s t m g stands decls = record {
 
 -- what was found is there again where no step was taken
 
-pub record Again (start new : Work) (first : Tree) (t : Sequence) (after : List Entry) (xs : List Tree) (ts : List Transition) : Type 0 where
-  pub again : HasFound start new first t after
+pub record Again (free : Bool) (start new : Work) (first : Tree) (t : Sequence) (after : List Entry) (xs : List Tree) (ts : List Transition) : Type 0 where
+  pub again : HasFound free start new first t after
   pub found : again.found ≡ xs
   pub proof : again.followed.proof ≡ ts
 
-pub found_again : (start old new : Work) (first : Tree) (s t : Sequence) (trail after : List Entry) (h : HasFound start old first s trail) → s.game.root.0 < length old.pool.trees → IsKept old new s t trail after → Again start new first t after h.found h.followed.proof
-found_again start old new first s t trail after h at k =
+pub found_again : {free : Bool} (start old new : Work) (first : Tree) (s t : Sequence) (trail after : List Entry) (h : HasFound free start old first s trail) → s.game.root.0 < length old.pool.trees → IsKept old new s t trail after → Again free start new first t after h.found h.followed.proof
+found_again {free} start old new first s t trail after h at k =
     let ds : List Declaration = declarations start.pool.trees start.decls.list in
     let own : ℕ = start.decls.own in
     let f = h.followed in
@@ -184,8 +184,8 @@ found_again start old new first s t trail after h at k =
           nodes = omega arith;
           live = subst (All (EntryLive (length trees))) (sym k.entries) (entries_more (length old.pool.trees) (length trees) trail (Grows_length old.pool new.pool k.grows) f.live);
         };
-        drawn = subst (λ (ns : List (List ℕ)). DrawsAlong ds (known_to own) own first (map led (map (entry_in trees) after)) start.names ns) (sym k.names)
-            (subst (λ (es : List Told). DrawsAlong ds (known_to own) own first (map led es) start.names old.names) (sym same) h.drawn);
+        drawn = subst (λ (ns : List (List ℕ)). DrawsAlong free ds (known_to own) own first (map led (map (entry_in trees) after)) start.names ns) (sym k.names)
+            (subst (λ (es : List Told). DrawsAlong free ds (known_to own) own first (map led es) start.names old.names) (sym same) h.drawn);
         grows = Grows_trans start.pool old.pool new.pool h.grows k.grows;
         names = ap (take (length start.names)) k.names ∙ h.names;
         decls = k.decls ∙ h.decls;
@@ -195,8 +195,8 @@ found_again start old new first s t trail after h at k =
     }
 
 -- so a try behind which nothing was taken comes to the same
-module _ (start old mid new : Work) (first : Tree) (allowed : Bool) (s t u : Sequence) (trail middle after : List Entry) (h : HasFound start old first s trail) (at : s.game.root.0 < length old.pool.trees) (k : IsKept old mid s t trail middle) where
-  passes_before : (which : Which) (i : HasFound start mid first t middle) → i.found ≡ h.found → i.followed.proof ≡ h.followed.proof
+module _ (start old mid new : Work) (first : Tree) (allowed : Bool) (s t u : Sequence) (trail middle after : List Entry) (h : HasFound true start old first s trail) (at : s.game.root.0 < length old.pool.trees) (k : IsKept old mid s t trail middle) where
+  passes_before : (which : Which) (i : HasFound true start mid first t middle) → i.found ≡ h.found → i.followed.proof ≡ h.followed.proof
       → Passes (length new.pool.trees) (length i.found) (scene (declarations start.pool.trees start.decls.list) (known_to start.decls.own) (game_in mid.pool.trees t)) (closed_by i.followed.proof) which
       → Passes (length new.pool.trees) (length h.found) (scene (declarations start.pool.trees start.decls.list) (known_to start.decls.own) (game_in old.pool.trees s)) (closed_by h.followed.proof) which
   passes_before which i e p w =
@@ -206,7 +206,7 @@ module _ (start old mid new : Work) (first : Tree) (allowed : Bool) (s t u : Seq
       (subst (λ g. Passes n (length h.found) (scene ds (known_to start.decls.own) g) (closed_by i.followed.proof) which) (game_stays old mid s t k.grows k.sequence at)
       (subst (λ (xs : List Tree). Passes n (length xs) (scene ds (known_to start.decls.own) (game_in mid.pool.trees t)) (closed_by i.followed.proof) which) e w))
 
-  comes_by : (tried : Tried) (i : HasFound start mid first t middle) → i.found ≡ h.found → i.followed.proof ≡ h.followed.proof → Comes start mid new first allowed t u middle after i tried → Comes start old new first allowed s u trail after h tried
+  comes_by : (tried : Tried) (i : HasFound true start mid first t middle) → i.found ≡ h.found → i.followed.proof ≡ h.followed.proof → Comes start mid new first allowed t u middle after i tried → Comes start old new first allowed s u trail after h tried
   comes_by (Accepted moved) i e p w = record { next = w.next; again = w.again; step = w.step; put = w.put ∙ ap (λ xs. xs ++ w.step ∷ []) e; unbuilt = w.unbuilt; advised = w.advised; told = w.told; may = w.may }
   comes_by Refused i e p w = kept_both old mid new s t u trail middle after k w
   comes_by Nothing i e p w = kept_both old mid new s t u trail middle after k w
@@ -242,7 +242,7 @@ pub comes_nothing : (old new : Work) (allowed : Bool) (s t : Sequence) (trail af
 comes_nothing old new allowed s t trail after k start first below h = k
 
 -- as many steps are counted as were found
-pub steps_counted : (start now : Work) (first : Tree) (s : Sequence) (trail : List Entry) (h : HasFound start now first s trail) → s.steps ≡ length h.found
+pub steps_counted : {free : Bool} (start now : Work) (first : Tree) (s : Sequence) (trail : List Entry) (h : HasFound free start now first s trail) → s.steps ≡ length h.found
 steps_counted start now first s trail h = h.followed.count ∙ (sym (length-map h.followed.proof (λ (x : Transition). x.step)) ∙ ap length (sym h.followed.steps))
 
 -- a step that is accepted is found
@@ -251,7 +251,7 @@ any_put : (p : Tree → Bool) (xs : List Tree) (x : Tree) → list_any p xs ≡ 
 any_put p [] x e f = f
 any_put p (y ∷ ys) x e f = let o = or_parts (p y) (list_any p ys) e in ap₂ ◌||◌ o.0 (any_put p ys x o.1 f)
 
-module _ (start old new : Work) (first : Tree) (below : All (IsBelow (length start.pool.trees)) start.decls.list) (s t : Sequence) (trail : List Entry) (h : HasFound start old first s trail) where
+module _ {free : Bool} (start old new : Work) (first : Tree) (below : All (IsBelow (length start.pool.trees)) start.decls.list) (s t : Sequence) (trail : List Entry) (h : HasFound free start old first s trail) where
   is_ds : declarations old.pool.trees old.decls.list ≡ declarations start.pool.trees start.decls.list
   is_ds = ap (λ (v : DeclsView). declarations old.pool.trees v.list) h.decls ∙ declarations_grown start.pool old.pool start.decls.list h.grows below
 
@@ -264,7 +264,7 @@ module _ (start old new : Work) (first : Tree) (below : All (IsBelow (length sta
 
     module _ (after : List Entry) (u : Unit {0}) (m : MayTry old s) (p : IsPushed old.pool old.decls new.pool.trees s t tree (Ok u)) (n : IsNoted t step (tree_at new.pool.trees (Some step.0)) trail after) (g : Grows old.pool new.pool) (stands : Stands new.pool.trees new.decls t)
         (few : length new.pool.trees ≤ length old.pool.trees + needed_for (scene_of old.pool old.decls s.game.root) tree (game_in new.pool.trees t) (items_of_step tree)) (names : take (length old.names) new.names ≡ old.names) (decls : new.decls ≡ old.decls)
-        (draws : (r : Reducing) → reducing_in tree ≡ Some r → DrawsNext old.names new.names old.decls.own (scene_of old.pool old.decls s.game.root) r.equivalence r.key (game_in new.pool.trees t)) (alone : reducing_in tree ≡ None → new.names ≡ old.names) where
+        (mid : List (List ℕ)) (ready : DrawsBefore free old.names mid old.decls.own (game_in old.pool.trees s) (items_of_step tree)) (draws : (r : Reducing) → reducing_in tree ≡ Some r → DrawsNext mid new.names old.decls.own (scene_of old.pool old.decls s.game.root) r.equivalence r.key (game_in new.pool.trees t)) (alone : reducing_in tree ≡ None → new.names ≡ mid) where
       noted : IsNoted t step tree trail after
       noted = subst (λ x. IsNoted t step x trail after) (root_grown old.pool new.pool step.0 g live) n
 
@@ -275,11 +275,11 @@ module _ (start old new : Work) (first : Tree) (below : All (IsBelow (length sta
           let f = followed_more (length old.pool.trees) (declarations start.pool.trees start.decls.list) start.decls.own first old.pool new.pool old.decls is_ds is_own h.found s t trail after step tree u h.followed p noted g (root_grown old.pool new.pool step.0 g live) (omega arith) m.stands.live stands.live few in
           record { proof = f.proof; steps = f.steps; leads = f.leads; entries = f.entries; count = f.count; sum = f.sum; closed = f.closed; nodes = omega arith; live = f.live }
 
-      pub found_more : HasFound start new first t after
+      pub found_more : HasFound free start new first t after
       found_more = record {
         found = h.found ++ tree ∷ [];
         followed = followed;
-        drawn = drawn_more (length old.pool.trees) (declarations start.pool.trees start.decls.list) start.decls.own first old.pool new.pool old.decls is_ds is_own h.found s t trail after step tree start.names old.names new.names h.followed noted g (root_grown old.pool new.pool step.0 g live) draws alone h.drawn;
+        drawn = drawn_more free (length old.pool.trees) (declarations start.pool.trees start.decls.list) start.decls.own first old.pool new.pool old.decls is_ds is_own h.found s t trail after step tree start.names old.names mid new.names h.followed noted g (root_grown old.pool new.pool step.0 g live) ready draws alone h.drawn;
         grows = Grows_trans start.pool old.pool new.pool h.grows g;
         names = names_kept start.names old.names new.names h.names names;
         decls = decls ∙ h.decls;
@@ -289,20 +289,7 @@ module _ (start old new : Work) (first : Tree) (below : All (IsBelow (length sta
       unfolding found_more
       found_put = refl
 
-      pub comes_more : has_unbuilt (queries_in (declarations old.pool.trees old.decls.list)) (tree ∷ []) ≡ false → (advised moved allowed : Bool) → moved ≡ is_move advised tree → (moved ≡ true → allowed ≡ true) → Comes start old new first allowed s t trail after h (Accepted moved)
-      unfolding found_more
-      comes_more built advised moved allowed e f = record {
-        next = found_more;
-        again = may_next old new s t m g stands decls;
-        step = tree;
-        put = refl;
-        unbuilt = subst (λ ds. has_unbuilt (queries_in ds) (tree ∷ []) ≡ false) is_ds built;
-        advised = advised;
-        told = e;
-        may = f;
-      }
-
-    -- one that isn't passes a limit, or comes to nothing
+    -- one that isn't may pass a limit
 
     module _ (e : PushError) (m : MayTry old s) (p : IsPushed old.pool old.decls new.pool.trees s t tree (Err e)) (kept : new.pool.trees ≡ old.pool.trees) (k : IsKept old new s t trail trail) where
       counted : s.steps ≡ length h.found
@@ -315,17 +302,30 @@ module _ (start old new : Work) (first : Tree) (below : All (IsBelow (length sta
           subst (λ n. Stops (length new.pool.trees) n (scene (declarations start.pool.trees start.decls.list) (known_to start.decls.own) (game_in old.pool.trees s)) (closed_by h.followed.proof) tree end) counted
           (stops_at (length old.pool.trees) (declarations start.pool.trees start.decls.list) start.decls.own first old.pool new.pool old.decls is_ds is_own s t (closed_by h.followed.proof) new.pool.trees tree e (length new.pool.trees) end (ap numbers_of h.followed.closed ∙ numbers_same no_sums h.followed.proof) p i m.limit (omega arith))
 
-      stops : (which : Which) → stop_of e s.steps ≡ Some (status.Limit which)
+      pub stops : (which : Which) → stop_of e s.steps ≡ Some (status.Limit which)
           → Passes (length new.pool.trees) (length h.found) (scene (declarations start.pool.trees start.decls.list) (known_to start.decls.own) (game_in old.pool.trees s)) (closed_by h.followed.proof) which
       stops which i = by_step which tree (stops_by (status.Limit which) i)
 
-    pub comes_otherwise : (e : PushError) (allowed : Bool) (tried : Tried) → tried_of e ≡ Some tried → MayTry old s → IsPushed old.pool old.decls new.pool.trees s t tree (Err e) → new.pool.trees ≡ old.pool.trees → IsKept old new s t trail trail → Comes start old new first allowed s t trail trail h tried
-    comes_otherwise (fault.Refused f) allowed tried i m p kept k = subst (Comes start old new first allowed s t trail trail h) (some_injective i) k
-    comes_otherwise fault.Steps allowed tried i m p kept k = subst (Comes start old new first allowed s t trail trail h) (some_injective i) (k, stops fault.Steps m p kept k Steps refl)
-    comes_otherwise (fault.Build (build.Nodes n)) allowed tried i m p kept k = subst (Comes start old new first allowed s t trail trail h) (some_injective i) (k, stops (fault.Build (build.Nodes n)) m p kept k (Nodes n) refl)
-    comes_otherwise (fault.Build (build.Depth n)) allowed tried i m p kept k = subst (Comes start old new first allowed s t trail trail h) (some_injective i) (k, stops (fault.Build (build.Depth n)) m p kept k (Depth n) refl)
-    comes_otherwise (fault.Build (build.Full n)) allowed tried i m p kept k = subst (Comes start old new first allowed s t trail trail h) (some_injective i) (k, stops (fault.Build (build.Full n)) m p kept k (Pool n) refl)
-    comes_otherwise (fault.Build build.OutOfMemory) allowed tried i m p kept k = absurd (cc)
+module _ (start old new : Work) (first : Tree) (below : All (IsBelow (length start.pool.trees)) start.decls.list) (s t : Sequence) (trail : List Entry) (h : HasFound true start old first s trail) where
+  pub comes_more : (after : List Entry) (tree : Tree) (next : HasFound true start new first t after) → next.found ≡ h.found ++ tree ∷ [] → MayTry new t → has_unbuilt (queries_in (declarations old.pool.trees old.decls.list)) (tree ∷ []) ≡ false → (advised moved allowed : Bool) → moved ≡ is_move advised tree → (moved ≡ true → allowed ≡ true) → Comes start old new first allowed s t trail after h (Accepted moved)
+  comes_more after tree next put again built advised moved allowed e f = record {
+    next = next;
+    again = again;
+    step = tree;
+    put = put;
+    unbuilt = subst (λ ds. has_unbuilt (queries_in ds) (tree ∷ []) ≡ false) (is_ds start old new first below s t trail h) built;
+    advised = advised;
+    told = e;
+    may = f;
+  }
+
+  pub comes_otherwise : (step : Step) (live : step.0.0 < length old.pool.trees) (e : PushError) (allowed : Bool) (tried : Tried) → tried_of e ≡ Some tried → MayTry old s → IsPushed old.pool old.decls new.pool.trees s t (tree_at old.pool.trees (Some step.0)) (Err e) → new.pool.trees ≡ old.pool.trees → IsKept old new s t trail trail → Comes start old new first allowed s t trail trail h tried
+  comes_otherwise step live (fault.Refused f) allowed tried i m p kept k = subst (Comes start old new first allowed s t trail trail h) (some_injective i) k
+  comes_otherwise step live fault.Steps allowed tried i m p kept k = subst (Comes start old new first allowed s t trail trail h) (some_injective i) (k, stops start old new first below s t trail h step live fault.Steps m p kept k Steps refl)
+  comes_otherwise step live (fault.Build (build.Nodes n)) allowed tried i m p kept k = subst (Comes start old new first allowed s t trail trail h) (some_injective i) (k, stops start old new first below s t trail h step live (fault.Build (build.Nodes n)) m p kept k (Nodes n) refl)
+  comes_otherwise step live (fault.Build (build.Depth n)) allowed tried i m p kept k = subst (Comes start old new first allowed s t trail trail h) (some_injective i) (k, stops start old new first below s t trail h step live (fault.Build (build.Depth n)) m p kept k (Depth n) refl)
+  comes_otherwise step live (fault.Build (build.Full n)) allowed tried i m p kept k = subst (Comes start old new first allowed s t trail trail h) (some_injective i) (k, stops start old new first below s t trail h step live (fault.Build (build.Full n)) m p kept k (Pool n) refl)
+  comes_otherwise step live (fault.Build build.OutOfMemory) allowed tried i m p kept k = absurd (cc)
 
 -- the pool has no room for what is proposed
 
@@ -390,11 +390,11 @@ moves_few false made moves l f = l
 
 -- a search begins, and goes on
 
-unfoldable pub found_none : (w : Work) (first : Tree) (s : Sequence) (trail : List Entry) → trail ≡ [] → s.steps ≡ 0 → s.sum ≡ no_sums → s.closed ≡ [] → game_in w.pool.trees s ≡ first → HasFound w w first s trail
-found_none w first s trail e n m k g = record {
+unfoldable pub found_none : {free : Bool} (w : Work) (first : Tree) (s : Sequence) (trail : List Entry) → trail ≡ [] → s.steps ≡ 0 → s.sum ≡ no_sums → s.closed ≡ [] → game_in w.pool.trees s ≡ first → HasFound free w w first s trail
+found_none {free} w first s trail e n m k g = record {
   found = [];
   followed = followed_none (length w.pool.trees) (declarations w.pool.trees w.decls.list) w.decls.own w.pool.trees s trail first e n m k (omega arith) g;
-  drawn = subst (λ (es : List Entry). DrawsAlong (declarations w.pool.trees w.decls.list) (known_to w.decls.own) w.decls.own first (map led (map (entry_in w.pool.trees) es)) w.names w.names) (sym e) refl;
+  drawn = subst (λ (es : List Entry). DrawsAlong free (declarations w.pool.trees w.decls.list) (known_to w.decls.own) w.decls.own first (map led (map (entry_in w.pool.trees) es)) w.names w.names) (sym e) refl;
   grows = Grows_refl w.pool;
   names = take_all (length w.names) w.names (omega arith);
   decls = refl;
@@ -494,7 +494,7 @@ search_exhausted start now first made moves s trail h = record { made = made; se
 
 -- what a search leaves
 
-module _ (start now : Work) (first : Tree) (moves : ℕ) (below : All (IsBelow (length start.pool.trees)) start.decls.list) (s : Sequence) (trail : List Entry) (h : HasFound start now first s trail) (built : has_unbuilt (queries_in (declarations start.pool.trees start.decls.list)) h.found ≡ false) (made : ℕ) (counted : AreMoves h.found made) (few : made ≤ moves) (w : Walk) (put : w.trail.items ≡ trail) (said : w.verdicts.items ≡ verdicts_by (sum_in s.closed) 1 (queries now.decls.list)) where
+module _ (start now : Work) (first : Tree) (moves : ℕ) (below : All (IsBelow (length start.pool.trees)) start.decls.list) (s : Sequence) (trail : List Entry) (h : HasFound true start now first s trail) (built : has_unbuilt (queries_in (declarations start.pool.trees start.decls.list)) h.found ≡ false) (made : ℕ) (counted : AreMoves h.found made) (few : made ≤ moves) (w : Walk) (put : w.trail.items ≡ trail) (said : w.verdicts.items ≡ verdicts_by (sum_in s.closed) 1 (queries now.decls.list)) where
   abbrev ds : List Declaration
   ds = declarations start.pool.trees start.decls.list
 
@@ -520,7 +520,7 @@ module _ (start now : Work) (first : Tree) (moves : ℕ) (below : All (IsBelow (
       verdicts = verdicts_are;
       live = subst (All (EntryLive (length now.pool.trees))) (sym put) h.followed.live;
     };
-    drawn = subst (λ (es : List Entry). DrawsAlong ds (known_to start.decls.own) start.decls.own first (map led (map (entry_in now.pool.trees) es)) start.names now.names) (sym put) h.drawn;
+    drawn = subst (λ (es : List Entry). DrawsAlong true ds (known_to start.decls.own) start.decls.own first (map led (map (entry_in now.pool.trees) es)) start.names now.names) (sym put) h.drawn;
     grows = h.grows;
     names = h.names;
     decls = h.decls;

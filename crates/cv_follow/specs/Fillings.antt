@@ -17,7 +17,7 @@ use Rattle.cv_syntax.specs.declared.work.Work.{Work}
 use Rattle.cv_syntax.specs.Classes.{queries}
 use Rattle.cv_syntax.specs.Declarations.{declarations}
 use Rattle.cv_syntax.specs.PoolTrees.{tree_at}
-use Rattle.cv_syntax_trees.specs.declared.head.Head.TheVariants.{MergeStep, PruneStep, RewriteStep, SimplifyStep, UnletStep, UnnewStep}
+use Rattle.cv_syntax_trees.specs.declared.head.Head.TheVariants.{BirthdayStep, FreshStep, GuessStep, MergeStep, PruneStep, RewriteStep, SimplifyStep, UnletStep, UnnewStep}
 use Rattle.cv_syntax_trees.specs.Declarations.{Declaration}
 use Rattle.cv_syntax_trees.specs.Tree.{Tree, Node}
 use Rattle.cv_follow.specs.declared.searching.Tried.{Tried}
@@ -44,6 +44,9 @@ settles (Node MergeStep a b) = true
 settles (Node UnnewStep a b) = true
 settles (Node UnletStep a b) = true
 settles (Node RewriteStep a b) = true
+settles (Node BirthdayStep a b) = true
+settles (Node GuessStep a b) = true
+settles (Node FreshStep a b) = true
 settles t = false
 
 -- The steps fill the script: they are its own, in order, and some that settle the game in the place of each word.
@@ -74,41 +77,41 @@ pub record IsFilledWalk (start now : Work) (first : Tree) (script : List Tree) (
   pub steps : List Tree
   pub fills : Fills script steps
   pub walk : IsWalk (length now.pool.trees) (declarations start.pool.trees start.decls.list) start.decls.own first steps (map (λ n. tree_at start.pool.trees (Some n)) (queries start.decls.list)) now.pool.trees w
-  pub drawn : DrawsAlong (declarations start.pool.trees start.decls.list) (known_to start.decls.own) start.decls.own first (map led (map (entry_in now.pool.trees) w.trail.items)) start.names now.names
+  pub drawn : DrawsAlong false (declarations start.pool.trees start.decls.list) (known_to start.decls.own) start.decls.own first (map led (map (entry_in now.pool.trees) w.trail.items)) start.names now.names
   pub grows : Grows start.pool now.pool
   pub names : take (length start.names) now.names ≡ start.names
   pub decls : now.decls ≡ start.decls
 
 -- The next step, behind those that were found, ends a run so.
-abbrev pub EndsNext : (start old new : Work) → (first : Tree) → (s : Sequence) → (trail : List Entry) → HasFound start old first s trail → (step : Tree) → Status → Type 0
+abbrev pub EndsNext : (start old new : Work) → (first : Tree) → (s : Sequence) → (trail : List Entry) → HasFound false start old first s trail → (step : Tree) → Status → Type 0
 EndsNext start old new first s trail h step end =
     Stops (length new.pool.trees) (length h.found) (scene (declarations start.pool.trees start.decls.list) (known_to start.decls.own) (game_in old.pool.trees s)) (closed_by h.followed.proof) step end
 
 -- a step was taken behind those that were found, or a run ends by it
 
 pub record IsTaken (start new : Work) (first step : Tree) (found : List Tree) (t : Sequence) (after : List Entry) : Type 0 where
-  pub next : HasFound start new first t after
+  pub next : HasFound false start new first t after
   pub put : next.found ≡ found ++ step ∷ []
 
 abbrev pub TakesOne : (old new : Work) → (step : Tree) → (s t : Sequence) → (trail after : List Entry) → Option Status → Type 0
 TakesOne old new step s t trail after None =
     (start : Work) (first : Tree) → All (IsBelow (length start.pool.trees)) start.decls.list
-    → (h : HasFound start old first s trail) → IsTaken start new first step h.found t after
+    → (h : HasFound false start old first s trail) → IsTaken start new first step h.found t after
 TakesOne old new step s t trail after (Some end) =
     IsKept old new s t trail after
     × ((start : Work) (first : Tree) → All (IsBelow (length start.pool.trees)) start.decls.list
-    → (h : HasFound start old first s trail) → EndsNext start old new first s trail h step end)
+    → (h : HasFound false start old first s trail) → EndsNext start old new first s trail h step end)
 
 -- steps that settle the game were found behind others
 
 pub record IsSettled (start new : Work) (first : Tree) (found : List Tree) (t : Sequence) (after : List Entry) : Type 0 where
-  pub next : HasFound start new first t after
+  pub next : HasFound false start new first t after
   pub more : List Tree
   pub put : next.found ≡ found ++ more
   pub settled : list_all settles more ≡ true
 
 -- the next one, which would settle it too, ends the run so
-pub record IsEnded (start old new : Work) (first : Tree) (s : Sequence) (trail : List Entry) (h : HasFound start old first s trail) (end : Status) : Type 0 where
+pub record IsEnded (start old new : Work) (first : Tree) (s : Sequence) (trail : List Entry) (h : HasFound false start old first s trail) (end : Status) : Type 0 where
   pub step : Tree
   pub settling : settles step ≡ true
   pub ends : EndsNext start old new first s trail h step end
@@ -118,13 +121,13 @@ pub record IsEnded (start old new : Work) (first : Tree) (s : Sequence) (trail :
 abbrev pub SettlesOne : (old new : Work) → (s t : Sequence) → (trail after : List Entry) → Tried → Type 0
 SettlesOne old new s t trail after (Accepted moved) =
     (start : Work) (first : Tree) → All (IsBelow (length start.pool.trees)) start.decls.list
-    → (h : HasFound start old first s trail) → IsSettled start new first h.found t after
+    → (h : HasFound false start old first s trail) → IsSettled start new first h.found t after
 SettlesOne old new s t trail after Refused = IsKept old new s t trail after
 SettlesOne old new s t trail after Nothing = IsKept old new s t trail after
 SettlesOne old new s t trail after (Passed which) =
     IsKept old new s t trail after
     × ((start : Work) (first : Tree) → All (IsBelow (length start.pool.trees)) start.decls.list
-    → (h : HasFound start old first s trail) → IsEnded start old new first s trail h (status.Limit which))
+    → (h : HasFound false start old first s trail) → IsEnded start old new first s trail h (status.Limit which))
 
 -- whether more is tried behind a try, and how a run ends by the last one
 
@@ -147,7 +150,7 @@ EndsSettled start new first found t after (Some end) = (w : IsSettled start new 
 abbrev pub SettlesAll : (old new : Work) → (s t : Sequence) → (trail after : List Entry) → Option Status → Type 0
 SettlesAll old new s t trail after end =
     (start : Work) (first : Tree) → All (IsBelow (length start.pool.trees)) start.decls.list
-    → (h : HasFound start old first s trail) → EndsSettled start new first h.found t after end
+    → (h : HasFound false start old first s trail) → EndsSettled start new first h.found t after end
 
 -- what comes of a step of a script, which may be the word
 
@@ -160,5 +163,5 @@ Advances old new step s t trail after end = AdvancesBy (is_word step) old new st
 
 -- while a script is followed: the steps that were found fill its front
 pub record IsFilling (start now : Work) (first : Tree) (front : List Tree) (s : Sequence) (trail : List Entry) : Type 0 where
-  pub found : HasFound start now first s trail
+  pub found : HasFound false start now first s trail
   pub fills : Fills front found.found

@@ -1,6 +1,6 @@
 -- What the steps of a proof block lead to: each is taken in the game that those before it lead to, as long as it is accepted,
 -- there are no more than 2,000, and the pool has room.
-use Rattle.std.specs.Prelude.{◌≡◌, ℕ, suc, ◌+◌, ◌<◌, ◌≤◌, List, [], ◌∷◌, ◌++◌, length, map, nat_lt, Bool, true, false, Option, Some, option_map}
+use Rattle.std.specs.Prelude.{◌≡◌, ℕ, suc, ◌+◌, ◌<◌, ◌≤◌, List, [], ◌∷◌, ◌++◌, length, map, nat_lt, Bool, true, false, Option, Some, None, option_map}
 use Rattle.cv_bound.specs.declared.cost.Cost.{Cost}
 use Rattle.cv_bound.specs.closings.Queries.{first_unclosed_from}
 use Rattle.cv_context.specs.products.Shapes.{Shape}
@@ -89,6 +89,11 @@ entry_of t = (t.step, t.cost, t.context, game_behind (closing_in t.step) t.next)
 -- the step of an entry, with the game of its own that it leads to
 abbrev pub led : Told → Tree × Option Tree
 led t = (t.0, t.3)
+
+-- a file has no proof block: its steps are found
+abbrev pub is_without_block : Option (List Tree) → Bool
+is_without_block None = true
+is_without_block (Some script) = false
 
 -- the verdict is `Proved`
 abbrev pub is_proved : Verdict → Bool

@@ -2,7 +2,7 @@
 -- are taken. What is said of them is said as of the steps of a script. This profile's own.
 use Rattle.std.specs.Prelude.{◌≡◌, ℕ, suc, ◌+◌, ◌<◌, ◌≤◌, nat_lt, Bool, true, false, if◌then◌else◌, All, List, [], ◌∷◌, ◌++◌, length, map, take, Option, Some, None}
 use Rattle.cv_accept.specs.Accepted.{most_pool}
-use Rattle.cv_kernel.specs.Drawings.{DrawsAlong}
+use Rattle.cv_kernel.specs.Drawings.{DrawsAlong, DrawsBefore}
 use Rattle.cv_kernel.specs.Proofs.{IsProof, Transition, closed_by}
 use Rattle.cv_kernel.specs.Sequences.{Same, Stands, game_in}
 use Rattle.cv_kernel.specs.declared.error.PushError.{PushError}
@@ -23,6 +23,9 @@ use Rattle.cv_report.specs.declared.report.Which.TheVariants.{Depth, Nodes, Pool
 use Rattle.cv_report.specs.Text.{EntryLive}
 use Rattle.cv_scene.specs.Scenes.{Scene}
 use Rattle.cv_scene_view.specs.Kept.{scene_of}
+use Rattle.cv_script.specs.Views.{StepItems}
+use Rattle.cv_step_writer.specs.declared.proposals.Proposal.{Proposal}
+use Rattle.cv_step_writer.specs.declared.proposals.Proposal.TheVariants as proposal
 use Rattle.cv_steps.specs.Sequences.{scene}
 use Rattle.cv_syntax.specs.declared.work.BuildError.TheVariants as build
 use Rattle.cv_syntax.specs.declared.work.Work.{Work}
@@ -99,7 +102,7 @@ pub record IsSearch (moves : ℕ) (ds : List Declaration) (own : ℕ) (first : T
 -- with what it leaves of a work
 pub record HasSearched (start now : Work) (first : Tree) (moves : ℕ) (w : Walk) : Type 0 where
   pub search : IsSearch moves (declarations start.pool.trees start.decls.list) start.decls.own first now.pool.trees w
-  pub drawn : DrawsAlong (declarations start.pool.trees start.decls.list) (known_to start.decls.own) start.decls.own first (map led (map (entry_in now.pool.trees) w.trail.items)) start.names now.names
+  pub drawn : DrawsAlong true (declarations start.pool.trees start.decls.list) (known_to start.decls.own) start.decls.own first (map led (map (entry_in now.pool.trees) w.trail.items)) start.names now.names
   pub grows : Grows start.pool now.pool
   pub names : take (length start.names) now.names ≡ start.names
   pub decls : now.decls ≡ start.decls
@@ -111,11 +114,11 @@ pub record MayTry (w : Work) (s : Sequence) : Type 0 where
   pub equivalences : HasEquivalences (scene_of w.pool w.decls s.game.root)
   pub limit : w.pool.limit ≡ most_pool
 
--- what was found so far, since a work: the sequence, the trail and the table of names have it
-pub record HasFound (start now : Work) (first : Tree) (s : Sequence) (trail : List Entry) : Type 0 where
+-- what was found so far, since a work: the sequence, the trail and the table of names have it; free steps stand in no proof block
+pub record HasFound (free : Bool) (start now : Work) (first : Tree) (s : Sequence) (trail : List Entry) : Type 0 where
   pub found : List Tree
   pub followed : HasFollowed (length now.pool.trees) (declarations start.pool.trees start.decls.list) start.decls.own first found now.pool.trees s trail
-  pub drawn : DrawsAlong (declarations start.pool.trees start.decls.list) (known_to start.decls.own) start.decls.own first (map led (map (entry_in now.pool.trees) trail)) start.names now.names
+  pub drawn : DrawsAlong free (declarations start.pool.trees start.decls.list) (known_to start.decls.own) start.decls.own first (map led (map (entry_in now.pool.trees) trail)) start.names now.names
   pub grows : Grows start.pool now.pool
   pub names : take (length start.names) now.names ≡ start.names
   pub decls : now.decls ≡ start.decls
@@ -130,7 +133,7 @@ pub record IsKept (old new : Work) (s t : Sequence) (trail after : List Entry) :
 
 -- one step more was found; it is counted as a move only where one is allowed
 pub record IsFoundMore (start now : Work) (first : Tree) (allowed : Bool) (found : List Tree) (moved : Bool) (s : Sequence) (trail : List Entry) : Type 0 where
-  pub next : HasFound start now first s trail
+  pub next : HasFound true start now first s trail
   pub again : MayTry now s
   pub step : Tree
   pub put : next.found ≡ found ++ step ∷ []
@@ -140,7 +143,7 @@ pub record IsFoundMore (start now : Work) (first : Tree) (allowed : Bool) (found
   pub may : moved ≡ true → allowed ≡ true
 
 -- What came of a try, behind the steps that were found.
-abbrev pub Comes : (start old new : Work) → (first : Tree) → (allowed : Bool) → (s t : Sequence) → (trail after : List Entry) → HasFound start old first s trail → Tried → Type 0
+abbrev pub Comes : (start old new : Work) → (first : Tree) → (allowed : Bool) → (s t : Sequence) → (trail after : List Entry) → HasFound true start old first s trail → Tried → Type 0
 Comes start old new first allowed s t trail after h (Accepted moved) = IsFoundMore start new first allowed h.found moved t after
 Comes start old new first allowed s t trail after h Refused = IsKept old new s t trail after
 Comes start old new first allowed s t trail after h Nothing = IsKept old new s t trail after
@@ -152,11 +155,40 @@ Comes start old new first allowed s t trail after h (Passed which) =
 abbrev pub ComesTo : (old new : Work) → (allowed : Bool) → (s t : Sequence) → (trail after : List Entry) → Tried → Type 0
 ComesTo old new allowed s t trail after tried =
     (start : Work) (first : Tree) → All (IsBelow (length start.pool.trees)) start.decls.list
-    → (h : HasFound start old first s trail) → Comes start old new first allowed s t trail after h tried
+    → (h : HasFound true start old first s trail) → Comes start old new first allowed s t trail after h tried
+
+-- a proposed step gives new names
+
+abbrev pub gives_names : Proposal → Bool
+gives_names (proposal.ArrayRename x to) = true
+gives_names p = false
+
+-- A step is ready to be tried: behind so many names the table has what is drawn before. Where the step isn't taken, these go.
+
+abbrev pub IsReady : (n : ℕ) → Work → Sequence → Option StepItems → Type 0
+IsReady n w s o = DrawsBefore true (take n w.names) w.names w.decls.own (game_in w.pool.trees s) o
+
+abbrev pub with_names : (n : ℕ) → Work → Work
+with_names n w = record w { names = take n w.names }
+
+abbrev pub without_drawn : Tried → (n : ℕ) → Work → Work
+without_drawn (Accepted moved) n w = w
+without_drawn tried n w = with_names n w
+
+-- a step was taken
+
+abbrev pub is_taken : Tried → Bool
+is_taken (Accepted moved) = true
+is_taken tried = false
+
+-- what came of a step that was ready, but for the names that are still to go
+abbrev pub ComesFrom : (n : ℕ) → (old new : Work) → (allowed : Bool) → (s t : Sequence) → (trail after : List Entry) → Tried → Type 0
+ComesFrom n old new allowed s t trail after tried =
+    ComesTo (with_names n old) (without_drawn tried n new) allowed s t trail after tried
 
 -- while a search goes on: so many of the steps that were found were counted as moves, and each certificate is of a form that is built
 pub record IsSearching (start now : Work) (first : Tree) (made moves : ℕ) (s : Sequence) (trail : List Entry) : Type 0 where
-  pub found : HasFound start now first s trail
+  pub found : HasFound true start now first s trail
   pub built : has_unbuilt (queries_in (declarations start.pool.trees start.decls.list)) found.found ≡ false
   pub counted : AreMoves found.found made
   pub few : made ≤ moves

@@ -1,5 +1,5 @@
 // Scripts with the word `simplify`, in whose place steps are found that settle the game.
-ghost use Rattle.std.specs.Prelude.{◌≡◌, ◌<◌, ◌≤◌, ◌^◌, All, IfOk, IfSome, OnOk, None, Some, length, map, take, true};
+ghost use Rattle.std.specs.Prelude.{◌≡◌, ◌<◌, ◌≤◌, ◌^◌, All, IfOk, IfSome, OnOk, None, Some, length, map, take, true, false};
 ghost use Rattle.cv_pool.specs.PoolView.{Grows};
 ghost use Rattle.cv_syntax.specs.Classes.{queries};
 ghost use Rattle.cv_syntax.specs.Declarations.{declarations};
@@ -53,6 +53,9 @@ fn settles(pool: &Pool, step: Step) -> bool
         Head::UnnewStep => true,
         Head::UnletStep => true,
         Head::RewriteStep => true,
+        Head::BirthdayStep => true,
+        Head::GuessStep => true,
+        Head::FreshStep => true,
         _ => false,
     }
 }
@@ -328,7 +331,7 @@ pub fn follow_block(
         (tree_at work.old.pool.trees (Some game.root)) (trees_of work.old.pool.trees script.now)
         (map (λ n. tree_at work.old.pool.trees (Some n)) (queries work.old.decls.list))
         work.new.pool.trees w) }
-    ensures drawn { IfOk result (λ w. DrawsAlong
+    ensures drawn { IfOk result (λ w. DrawsAlong false
         (declarations work.old.pool.trees work.old.decls.list) (known_to work.old.decls.own)
         work.old.decls.own (tree_at work.old.pool.trees (Some game.root))
         (map led (map (entry_in work.new.pool.trees) w.trail.items)) work.old.names

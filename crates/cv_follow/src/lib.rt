@@ -3,6 +3,7 @@
 #![tactic(auto)]
 
 mod filling;
+mod naming;
 mod searching;
 mod walk;
 

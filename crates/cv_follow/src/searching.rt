@@ -1,4 +1,4 @@
-ghost use Rattle.std.specs.Prelude.{◌≡◌, ◌+◌, ◌<◌, ◌≤◌, ◌^◌, All, IfOk, None, Some, length, true};
+ghost use Rattle.std.specs.Prelude.{◌≡◌, ◌+◌, ◌<◌, ◌≤◌, ◌^◌, ℕ, All, IfOk, OnOk, None, Some, length, true};
 ghost use Rattle.cv_pool.specs.PoolView.{Grows};
 ghost use Rattle.cv_syntax.specs.Classes.{queries};
 ghost use Rattle.cv_syntax.specs.Declarations.{declarations};
@@ -12,10 +12,12 @@ ghost use Rattle.cv_bound.specs.closings.Queries.{first_unclosed, numbers_of, su
 ghost use Rattle.cv_report.specs.verdicts.Verdicts.{verdicts_by};
 ghost use Rattle.cv_kernel_crypto.specs.Applied.{HasEquivalences};
 ghost use Rattle.cv_scene_view.specs.Kept.{scene_of};
-ghost use Rattle.cv_step_writer.specs.Proposals.{IsProposalBelow};
+ghost use Rattle.cv_step_writer.specs.Proposals.{IsProposalBelow, step_tree};
+ghost use Rattle.cv_script.specs.Views.{items_of_step};
 ghost use Rattle.cv_kernel.specs.Sequences.{game_in};
-ghost use Rattle.cv_follow.specs.Searches.{ComesTo, HasEnded, HasSearched, IsFailed, IsReleased, IsSearching, MayTry, end_of_search, ending_by, is_move as is_move_tree, made_behind, status_of, tried_of};
+ghost use Rattle.cv_follow.specs.Searches.{ComesFrom, ComesTo, HasEnded, HasSearched, IsFailed, IsReady, IsReleased, IsSearching, MayTry, end_of_search, ending_by, is_move as is_move_tree, is_taken, made_behind, status_of, tried_of};
 
+use crate::naming::with_drawn;
 use crate::walk::{Walk, note};
 use cv_bound::closings::ClosedQueries;
 use cv_kernel::{PushError, Sequence};
@@ -82,7 +84,7 @@ fn tried_by(fault: PushError) -> Option<Tried>
 }
 
 /// Takes a step that was written, where it is accepted: it goes on the trail. A certificate of a form that isn't built is
-/// none, and a move comes only where one is allowed.
+/// none, and a move comes only where one is allowed. Names that were drawn for it are in the table, and are left there.
 #[tactic(auto, using(crate::proofs::Growing::growing))]
 fn take(
     alloc: Global,
@@ -98,9 +100,12 @@ fn take(
     requires live { step.0.0 < length work.old.pool.trees }
     requires short { nodes_of (tree_at work.old.pool.trees (Some step.0)) < 2 ^ 31 }
     requires few { length work.old.pool.trees ≤ most_pool }
-    ensures tried { IfOk result (ComesTo work.old work.new may_move sequence.old sequence.new
-        trail.old.items trail.new.items) }
+    ensures tried { (n : ℕ) → IsReady n work.old sequence.old
+        (items_of_step (tree_at work.old.pool.trees (Some step.0))) → IfOk result
+        (ComesFrom n work.old work.new may_move sequence.old sequence.new trail.old.items
+        trail.new.items) }
     ensures grows { Grows work.old.pool work.new.pool }
+    ensures names { OnOk result (length work.old.names ≤ length work.new.names) }
 {
     let moved = is_move(&work.pool, step, advised);
     if moved && !may_move {
@@ -125,7 +130,7 @@ fn take(
     }
 }
 
-/// Writes a step that is proposed, and takes it.
+/// Writes a step that is proposed, for which names were drawn, and takes it.
 #[tactic(auto, using(crate::proofs::Growing::growing))]
 fn write_and_take(
     alloc: Global,
@@ -139,15 +144,61 @@ fn write_and_take(
     requires may { MayTry work.old sequence.old }
     requires empty { sequence.old.arrays ≡ None }
     requires below { IsProposalBelow (length work.old.pool.trees) proposal.now }
-    ensures tried { IfOk result (ComesTo work.old work.new may_move sequence.old sequence.new
-        trail.old.items trail.new.items) }
+    ensures tried { (n : ℕ) → IsReady n work.old sequence.old
+        (items_of_step (step_tree work.old.pool.trees proposal.now)) → IfOk result
+        (ComesFrom n work.old work.new may_move sequence.old sequence.new trail.old.items
+        trail.new.items) }
     ensures grows { Grows work.old.pool work.new.pool }
+    ensures names { OnOk result (length work.old.names ≤ length work.new.names) }
 {
     match write(alloc, &mut work.pool, proposal) {
         Ok(node) => take(alloc, work, sequence, trail, Step(node), advised, may_move),
         Err(PoolError::Full { need }) => Ok(Tried::Passed(Which::Pool { need })),
         Err(PoolError::OutOfMemory) => Err(AllocError),
     }
+}
+
+/// Whether a step was taken.
+fn is_taken(tried: Tried) -> bool
+    ensures { result ≡ is_taken tried }
+{
+    match tried {
+        Tried::Accepted(_) => true,
+        _ => false,
+    }
+}
+
+/// Draws the new names of a step that is proposed, and takes it. Where it isn't taken, the table of names goes back to what it was.
+#[tactic(auto, using(crate::proofs::Growing::growing))]
+fn name_and_take(
+    alloc: Global,
+    work: &mut Work,
+    sequence: &mut Sequence,
+    trail: &mut Vec<Entry>,
+    proposal: Proposal,
+    advised: bool,
+    may_move: bool,
+) -> Result<Tried, AllocError>
+    requires may { MayTry work.old sequence.old }
+    requires empty { sequence.old.arrays ≡ None }
+    requires below { IsProposalBelow (length work.old.pool.trees) proposal }
+    ensures tried { IfOk result (ComesTo work.old work.new may_move sequence.old sequence.new
+        trail.old.items trail.new.items) }
+    ensures grows { Grows work.old.pool work.new.pool }
+{
+    let before = work.names.len();
+    let own = work.decls.own();
+    let root = sequence.game().root;
+    let Some(step) = with_drawn(alloc, &mut work.names, &work.pool, own, root, proposal)? else {
+        work.names.keep(before);
+        return Ok(Tried::Refused);
+    };
+    let tried = write_and_take(alloc, work, sequence, trail, &step, advised, may_move)?;
+    if is_taken(tried) {
+        return Ok(tried);
+    }
+    work.names.keep(before);
+    Ok(tried)
 }
 
 /// What comes of a proposal that fails. Where the pool has room for so many nodes more, it isn't taken.
@@ -188,7 +239,7 @@ fn try_next(
     match step {
         Ok(Some(proposal)) => {
             let advised = strategy.is_moving();
-            write_and_take(alloc, work, sequence, trail, &proposal, advised, may_move)
+            name_and_take(alloc, work, sequence, trail, proposal, advised, may_move)
         }
         Ok(None) => Ok(Tried::Nothing),
         Err(fault) => fail(&mut work.pool, fault),

@@ -1,4 +1,4 @@
-ghost use Rattle.std.specs.Prelude.{◌≡◌, ◌+◌, ◌<◌, ◌≤◌, ◌^◌, All, IfOk, OnOk, Some, length, map, option_map, take};
+ghost use Rattle.std.specs.Prelude.{◌≡◌, ◌+◌, ◌<◌, ◌≤◌, ◌^◌, All, IfOk, OnOk, Some, length, map, option_map, take, false};
 ghost use Rattle.cv_pool.specs.PoolView.{Grows};
 ghost use Rattle.cv_syntax.specs.Classes.{queries};
 ghost use Rattle.cv_syntax.specs.Declarations.{declarations};
@@ -137,7 +137,7 @@ pub(crate) fn follow(
         (tree_at work.old.pool.trees (Some game.root)) (trees_of work.old.pool.trees script.now)
         (map (λ n. tree_at work.old.pool.trees (Some n)) (queries work.old.decls.list))
         work.new.pool.trees w) }
-    ensures drawn { IfOk result (λ w. DrawsAlong
+    ensures drawn { IfOk result (λ w. DrawsAlong false
         (declarations work.old.pool.trees work.old.decls.list) (known_to work.old.decls.own)
         work.old.decls.own (tree_at work.old.pool.trees (Some game.root))
         (map led (map (entry_in work.new.pool.trees) w.trail.items)) work.old.names

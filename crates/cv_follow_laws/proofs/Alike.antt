@@ -9,7 +9,7 @@ use Rattle.cv_accept.specs.Accepted.{Content, most_pool}
 use Rattle.cv_kernel.specs.Drawings.{DrawsAlong, told}
 use Rattle.cv_kernel.specs.Proofs.{Transition}
 use Rattle.cv_report.specs.declared.report.Report.{Report}
-use Rattle.cv_follow.specs.Scripts.{Told, entry_in, entry_of, known_to, led, verdicts_of}
+use Rattle.cv_follow.specs.Scripts.{Told, entry_in, entry_of, is_without_block, known_to, led, verdicts_of}
 use Rattle.cv_follow.specs.Fillings.{StandsBy, has_word}
 use Rattle.cv_follow_laws.specs.Reports.{AreFound, AreFront, FollowsScript, HasDrawn, IsReportOf, Proceeds, TakesSteps, file_in, said_along}
 use Rattle.cv_follow_laws.proofs.Names.{one_file, stand_once}
@@ -20,8 +20,8 @@ module _ (c : Content) where
   pub count_of : (r : Report) (w : TakesSteps r c) → length r.trail.items ≡ length w.proof
   count_of r w = sym (length-map r.trail.items (entry_in r.work.pool.trees)) ∙ (ap length w.trail ∙ length-map w.proof entry_of)
 
-  pub drawn_along : (r : Report) (w : TakesSteps r c) → HasDrawn r c → DrawsAlong c.declarations (known_to c.own) c.own c.game (map told w.proof) c.names r.work.names
-  drawn_along r w d = subst (λ xs. DrawsAlong c.declarations (known_to c.own) c.own c.game xs c.names r.work.names) (ap (map led) w.trail ∙ led_all w.proof) d
+  pub drawn_along : (r : Report) (w : TakesSteps r c) → HasDrawn r c → DrawsAlong (is_without_block c.script) c.declarations (known_to c.own) c.own c.game (map told w.proof) c.names r.work.names
+  drawn_along r w d = subst (λ xs. DrawsAlong (is_without_block c.script) c.declarations (known_to c.own) c.own c.game xs c.names r.work.names) (ap (map led) w.trail ∙ led_all w.proof) d
 
   abbrev pub steps_of : (r : Report) (o : Option (List Tree)) → Proceeds r c o → TakesSteps r c
   steps_of r None w = w

@@ -49,9 +49,9 @@ module _ (ds : List Declaration) (known : ℕ → Bool) where
       ]
 
   -- so it is with the names that they draw
-  pub drawn_front : (own : ℕ) (game : Tree) (ts us : List (Tree × Option Tree)) (a c : List (List ℕ)) → DrawsAlong ds known own game (ts ++ us) a c → (b : List (List ℕ)) × DrawsAlong ds known own game ts a b
-  drawn_front own game [] us a c h = (a, refl)
-  drawn_front own game (t ∷ ts) us a c h = let r = drawn_front own (game_after t.1 game) ts us h.0 c h.2 in (r.0, (h.0, h.1, r.1))
+  pub drawn_front : (found : Bool) (own : ℕ) (game : Tree) (ts us : List (Tree × Option Tree)) (a c : List (List ℕ)) → DrawsAlong found ds known own game (ts ++ us) a c → (b : List (List ℕ)) × DrawsAlong found ds known own game ts a b
+  drawn_front found own game [] us a c h = (a, refl)
+  drawn_front found own game (t ∷ ts) us a c h = let r = drawn_front found own (game_after t.1 game) ts us h.0 c h.2 in (r.0, (h.0, h.1, r.1))
 
 -- two fronts of one list are as many of its steps
 pub steps_front : (ts us : List Transition) (left rest : List Tree) → map (λ (t : Transition). t.step) ts ++ left ≡ map (λ (t : Transition). t.step) us ++ rest → length ts ≤ length us → map (λ (t : Transition). t.step) ts ≡ map (λ (t : Transition). t.step) (take (length ts) us)

@@ -1,5 +1,5 @@
 -- Of a file with a proof block: two trails along its steps, of which one may be shorter.
-use Rattle.std.proofs.Common.{◌≡◌, ℕ, ◌≤◌, List, [], ◌∷◌, ◌++◌, length, map, take, drop, refl, ap, sym, ◌∙◌, subst, arith}
+use Rattle.std.proofs.Common.{◌≡◌, ℕ, ◌≤◌, Bool, List, [], ◌∷◌, ◌++◌, length, map, take, drop, refl, ap, sym, ◌∙◌, subst, arith}
 use Rattle.std.proofs.lemmas.List.{length-map, map-append, take-append-drop, take-map, take_all}
 use Rattle.cv_names.specs.Texts.{NoRepeat}
 use Rattle.cv_syntax_trees.specs.Tree.{Tree}
@@ -7,15 +7,18 @@ use Rattle.cv_accept.specs.Accepted.{Content}
 use Rattle.cv_kernel.specs.Drawings.{DrawsAlong, told}
 use Rattle.cv_kernel.specs.Proofs.{IsProof, Transition}
 use Rattle.cv_kernel_laws.proofs.sequences.OneSequence.{alike}
-use Rattle.cv_follow.specs.Scripts.{entry_of, known_to, led}
+use Rattle.cv_follow.specs.Scripts.{is_without_block, known_to}
 use Rattle.cv_follow_laws.proofs.Fronts.{drawn_front, proof_front, steps_front}
 
 module _ (c : Content) (apart : NoRepeat c.names) where
+  abbrev found : Bool
+  found = is_without_block c.script
+
   abbrev Leads : List Transition → Tree → Type 0
   Leads ts last = IsProof c.declarations (known_to c.own) c.game ts last
 
   abbrev Drawn : List Transition → List (List ℕ) → Type 0
-  Drawn ts after = DrawsAlong c.declarations (known_to c.own) c.own c.game (map told ts) c.names after
+  Drawn ts after = DrawsAlong found c.declarations (known_to c.own) c.own c.game (map told ts) c.names after
 
   -- the shorter one is the front of the longer one
   pub front_is : (ts us : List Transition) (g h : Tree) (after other : List (List ℕ)) (left rest : List Tree) → Leads ts g → Leads us h → Drawn ts after → Drawn us other → map (λ (t : Transition). t.step) ts ++ left ≡ map (λ (t : Transition). t.step) us ++ rest → length ts ≤ length us → ts ≡ take (length ts) us
@@ -23,11 +26,11 @@ module _ (c : Content) (apart : NoRepeat c.names) where
       let n : ℕ = length ts in
       let front = proof_front c.declarations (known_to c.own) c.game us h n q in
       let parts : map told us ≡ map told (take n us) ++ map told (drop n us) = ap (map told) (sym (take-append-drop n us)) ∙ map-append told (take n us) (drop n us) in
-      let along = drawn_front c.declarations (known_to c.own) c.own c.game (map told (take n us)) (map told (drop n us)) c.names other (subst (λ xs. DrawsAlong c.declarations (known_to c.own) c.own c.game xs c.names other) parts l) in
-      (alike c.declarations (known_to c.own) c.own c.game g front.0 ts (take n us) c.names after along.0 apart p front.1 (steps_front ts us left rest e few) k along.1).one
+      let along = drawn_front c.declarations (known_to c.own) found c.own c.game (map told (take n us)) (map told (drop n us)) c.names other (subst (λ xs. DrawsAlong found c.declarations (known_to c.own) c.own c.game xs c.names other) parts l) in
+      (alike found c.declarations (known_to c.own) c.own c.game g front.0 ts (take n us) c.names after along.0 apart p front.1 (steps_front ts us left rest e few) k along.1).one
 
   -- trails of as many steps are one, and draw one table
   pub same_is : (ts us : List Transition) (g h : Tree) (after other : List (List ℕ)) (left rest : List Tree) → Leads ts g → Leads us h → Drawn ts after → Drawn us other → map (λ (t : Transition). t.step) ts ++ left ≡ map (λ (t : Transition). t.step) us ++ rest → length ts ≡ length us → (ts ≡ us) × (after ≡ other)
   same_is ts us g h after other left rest p q k l e same =
       let one : ts ≡ us = front_is ts us g h after other left rest p q k l e (omega arith) ∙ take_all (length ts) us (omega arith) in
-      (one, (alike c.declarations (known_to c.own) c.own c.game g h ts us c.names after other apart p q (ap (map (λ (t : Transition). t.step)) one) k l).names)
+      (one, (alike found c.declarations (known_to c.own) c.own c.game g h ts us c.names after other apart p q (ap (map (λ (t : Transition). t.step)) one) k l).names)

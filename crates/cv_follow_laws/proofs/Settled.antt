@@ -22,7 +22,7 @@ use Rattle.cv_report.specs.declared.report.Status.{Status}
 use Rattle.cv_report.specs.declared.report.Status.TheVariants as status
 use Rattle.cv_report.specs.declared.report.Which.TheVariants.{Depth, Nodes}
 use Rattle.cv_report.specs.Text.{end_text, text_of}
-use Rattle.cv_follow.specs.Scripts.{EndsScript, Stops, known_to, no_room, refused, too_deep, too_large, too_many}
+use Rattle.cv_follow.specs.Scripts.{EndsScript, Stops, is_without_block, known_to, no_room, refused, too_deep, too_large, too_many}
 use Rattle.cv_follow.specs.Fillings.{has_word}
 use Rattle.cv_follow_laws.specs.Reports.{AreFound, AreFront, FollowsScript, HasDrawn, IsPlain, IsReportOf, IsSettled, Proceeds, block_of, file_in}
 use Rattle.cv_follow_laws.proofs.Fronts.{proof_at}
@@ -67,7 +67,7 @@ module _ (c : Content) (unlike : NoRepeat c.names) where
   Leads ts last = IsProof c.declarations (known_to c.own) c.game ts last
 
   abbrev Drawn : List Transition → List (List ℕ) → Type 0
-  Drawn ts after = DrawsAlong c.declarations (known_to c.own) c.own c.game (map told ts) c.names after
+  Drawn ts after = DrawsAlong (is_without_block c.script) c.declarations (known_to c.own) c.own c.game (map told ts) c.names after
 
   abbrev here : Tree → Scene
   here game = scene c.declarations (known_to c.own) game

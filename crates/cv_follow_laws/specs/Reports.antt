@@ -12,7 +12,7 @@ use Rattle.cv_report.specs.declared.report.Report.{Report}
 use Rattle.cv_report.specs.declared.report.Status.{Status}
 use Rattle.cv_report.specs.declared.report.Status.TheVariants as status
 use Rattle.cv_report.specs.declared.report.Which.TheVariants.{Depth, Nodes}
-use Rattle.cv_follow.specs.Scripts.{EndsScript, Told, entry_in, entry_of, known_to, led, verdicts_of}
+use Rattle.cv_follow.specs.Scripts.{EndsScript, Told, entry_in, entry_of, is_without_block, known_to, led, verdicts_of}
 use Rattle.cv_follow.specs.Fillings.{StandsFor, has_word}
 use Rattle.cv_kernel.specs.Proofs.{IsProof, Transition, closed_by, nodes_along}
 use Rattle.cv_steps.specs.Sequences.{scene}
@@ -27,7 +27,7 @@ said_along r = map (entry_in r.work.pool.trees) r.trail.items
 
 -- the names of a report are those of its file, and behind them those that were drawn along its trail
 abbrev pub HasDrawn : Report → Content → Type 0
-HasDrawn r c = DrawsAlong c.declarations (known_to c.own) c.own c.game (map led (said_along r)) c.names r.work.names
+HasDrawn r c = DrawsAlong (is_without_block c.script) c.declarations (known_to c.own) c.own c.game (map led (said_along r)) c.names r.work.names
 
 -- what a report says of steps, whether they are those of a proof block or were found
 pub record TakesSteps (r : Report) (c : Content) : Type 0 where

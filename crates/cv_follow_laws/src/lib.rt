@@ -23,13 +23,13 @@ pub fn names_of_files_stand_once()
 /// So a file and steps that are accepted one after another, from its game on, fix the games that these lead to, the
 /// costs and the contexts, and the table of names behind them, where the names are drawn behind those of the file.
 pub fn a_file_and_its_steps_fix_the_games()
-    ensures { (limit : ℕ) (bytes : List ℕ) (f : Content) (known : ℕ → Bool)
+    ensures { (found : Bool) (limit : ℕ) (bytes : List ℕ) (f : Content) (known : ℕ → Bool)
         (ts us : List Transition) (g h : Tree) (after other : List (List ℕ))
         → IsFile limit bytes f
         → IsProof f.declarations known f.game ts g → IsProof f.declarations known f.game us h
         → map (λ t. t.step) ts ≡ map (λ t. t.step) us
-        → DrawsAlong f.declarations known f.own f.game (map told ts) f.names after
-        → DrawsAlong f.declarations known f.own f.game (map told us) f.names other
+        → DrawsAlong found f.declarations known f.own f.game (map told ts) f.names after
+        → DrawsAlong found f.declarations known f.own f.game (map told us) f.names other
         → (ts ≡ us) × (after ≡ other) }
 {}
 

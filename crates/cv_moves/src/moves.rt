@@ -32,18 +32,33 @@ enum Move {
     Crypto { equivalence: u32, x: u32 },
     /// The step `unlet`.
     Unlet { x: u32 },
+    /// The step `SArename`, with a name for each of so many sites.
+    ArrayRename { x: u32, sites: u32 },
 }
 
-/// The step of a move.
-fn proposal_of(step: Move) -> Proposal
-    ensures { (n : ℕ) → IsProposalBelow n result }
+/// A name, so many times.
+fn repeated(alloc: Global, x: u32, count: u32) -> Result<Vec<NameId>, AllocError> {
+    let mut names = Vec::new(alloc);
+    for _ in 0..count {
+        names.push(NameId(x))?;
+    }
+    Ok(names)
+}
+
+/// The step of a move. The new names of `SArename` are still to be drawn: each place has the name from which that is done.
+fn proposal_of(alloc: Global, step: Move) -> Result<Proposal, AllocError>
+    ensures { (n : ℕ) → IfOk result (IsProposalBelow n) }
 {
     match step {
-        Move::Crypto { equivalence, x } => Proposal::Crypto {
+        Move::Crypto { equivalence, x } => Ok(Proposal::Crypto {
             equivalence: NameId(equivalence),
             x: NameId(x),
-        },
-        Move::Unlet { x } => Proposal::Unlet { x: NameId(x) },
+        }),
+        Move::Unlet { x } => Ok(Proposal::Unlet { x: NameId(x) }),
+        Move::ArrayRename { x, sites } => Ok(Proposal::ArrayRename {
+            x: NameId(x),
+            to: repeated(alloc, x, sites)?,
+        }),
     }
 }
 
@@ -74,23 +89,28 @@ struct Search<'a> {
     budget: Budget,
 }
 
-/// Whether a variable is drawn as a key of this type, by one `new`.
-fn is_drawn_once(side: &Side, x: Variable) -> bool {
+/// Whether a variable is drawn as a key of this type, at each of its sites.
+fn is_drawn_as_key(side: &Side, x: Variable) -> bool {
     match x.sort {
-        Some(t) => x.sites == 1 && x.is_drawn && t == side.sort,
+        Some(t) => x.is_drawn && t == side.sort,
         None => false,
     }
 }
 
+/// Whether something reads a variable.
+fn is_read(x: Variable) -> bool {
+    x.is_tested || x.first != 0
+}
+
 impl<'a> Search<'a> {
-    /// Whether a variable may be a key: it is drawn once, and no query asks for it.
+    /// Whether a variable may be a key but for the count of its sites: it is drawn as one, and no query asks for it.
     fn is_key(&self, side: &Side, x: Variable) -> bool {
-        is_drawn_once(side, x) && !self.secrets.contains(&x.name)
+        is_drawn_as_key(side, x) && !self.secrets.contains(&x.name)
     }
 
     /// The cryptographic step for a variable, where it is read in instances alone.
     fn crypto(&mut self, side: &Side, x: Variable) -> Result<Option<Move>, AllocError> {
-        if !self.is_key(side, x) || x.first == 0 || x.is_tested {
+        if !self.is_key(side, x) || x.sites != 1 || x.first == 0 || x.is_tested {
             return Ok(None);
         }
         match outside_read(self.scene, side, x, &mut self.budget)? {
@@ -110,11 +130,25 @@ impl<'a> Search<'a> {
         }
     }
 
-    /// The step that is advised for a variable: where the first read outside all instances is all that a `let` gives, the `let`
-    /// goes. For a variable with several sites no step is advised yet.
+    /// The step `SArename` for a variable with several sites, where it is read.
+    fn array_rename(&self, x: Variable) -> Option<Move> {
+        if !is_read(x) {
+            return None;
+        }
+        Some(Move::ArrayRename {
+            x: x.name,
+            sites: x.sites,
+        })
+    }
+
+    /// The step that is advised for a variable: one with several sites gets a name for each. Else, where the first read outside all
+    /// instances is all that a `let` gives, the `let` goes.
     fn advised(&mut self, side: &Side, x: Variable) -> Result<Option<Move>, AllocError> {
         if !self.is_key(side, x) {
             return Ok(None);
+        }
+        if x.sites > 1 {
+            return Ok(self.array_rename(x));
         }
         let Some(spot) = outside_read(self.scene, side, x, &mut self.budget)? else {
             return Ok(None);
@@ -207,7 +241,8 @@ fn find(
 
 /// The move of this number, from 0, that a settled game suggests: first the cryptographic steps, then those that are advised;
 /// each by equivalences in the order of the file, and then by variables in the order of their first sites. There is none where
-/// fewer are suggested. Whether a step may be taken is tested by the kernel.
+/// fewer are suggested. Whether a step may be taken is tested by the kernel. In place of its new names `SArename` has the name from
+/// which these are to be drawn.
 #[tactic(auto, using(cv_pool::proofs::Growth::Grows_refl))]
 pub fn suggest(
     alloc: Global,
@@ -219,9 +254,14 @@ pub fn suggest(
     ensures below { IfOk result (λ o. IfSome o (IsProposalBelow (length pool.new.trees))) }
     ensures grows { Grows pool.old pool.new }
 {
-    match find(alloc, pool, decls, game, number) {
-        Ok(Some(step)) => Ok(Some(proposal_of(step))),
-        Ok(None) => Ok(None),
+    let Ok(found) = find(alloc, pool, decls, game, number) else {
+        return Err(PoolError::OutOfMemory);
+    };
+    let Some(step) = found else {
+        return Ok(None);
+    };
+    match proposal_of(alloc, step) {
+        Ok(proposal) => Ok(Some(proposal)),
         Err(AllocError) => Err(PoolError::OutOfMemory),
     }
 }

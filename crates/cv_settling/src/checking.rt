@@ -68,6 +68,9 @@ pub(crate) fn is_proposal_below(count: u32, proposal: &Proposal) -> bool
         Proposal::Merge { .. } => true,
         Proposal::Unnew { .. } => true,
         Proposal::Unlet { .. } => true,
+        Proposal::Birthday { .. } => true,
+        Proposal::Guess { .. } => true,
+        Proposal::Fresh { .. } => true,
         _ => false,
     }
 }

@@ -1,8 +1,10 @@
 // Steps that settle a game, in the order of the strategy, as proposals that the kernel may refuse: bodies that are not reached,
-// tests with equal bodies, variables that nothing names, `let`s that are read once, and terms that an equation makes smaller.
+// tests with equal bodies, variables that nothing names, `let`s that are read once, terms that an equation makes smaller, and
+// equalities that hold by chance alone.
 #![tactic(auto)]
 
 mod checking;
+mod collisions;
 mod equations;
 mod matching;
 mod measure;

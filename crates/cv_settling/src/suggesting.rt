@@ -6,7 +6,7 @@ ghost use Rattle.cv_step_writer.specs.Proposals.{IsProposalBelow};
 use crate::checking::is_proposal_below;
 use crate::equations::Equations;
 use crate::stop::Stop;
-use crate::{merge, prune, rewrite, unlet, unnew};
+use crate::{collisions, merge, prune, rewrite, unlet, unnew};
 use cv_grounds::open;
 use cv_settling_overview::walk::Overview;
 use cv_step_writer::Proposal;
@@ -92,12 +92,17 @@ fn settling_step(
     if let Some(step) = plain_step(alloc, pool, decls, &overview, &mut left)? {
         return Ok(Some(step));
     }
-    rewriting_step(alloc, pool, decls, &overview, &mut left)
+    if let Some(step) = rewriting_step(alloc, pool, decls, &overview, &mut left)? {
+        return Ok(Some(step));
+    }
+    let queried = queried_variables(alloc, pool, decls)?;
+    Ok(collisions::find(alloc, decls, &overview, &queried, &mut left)?)
 }
 
 /// The settling step with a number, from 0, that a game suggests, in the order of the strategy: bodies that are not reached, tests
 /// with equal bodies, variables that nothing names, `let`s whose term may stand for their variable, terms that an equation makes
-/// smaller. Each lowers the measure. There is none where fewer are suggested; whether one is accepted the kernel says.
+/// smaller, equalities that hold by chance alone. Each lowers the measure. There is none where fewer are suggested; whether one is
+/// accepted the kernel says.
 #[tactic(auto, using(crate::proofs::Growing::growing))]
 pub fn suggest(
     alloc: Global,

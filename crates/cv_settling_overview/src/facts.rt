@@ -309,7 +309,7 @@ impl Facts {
     }
 
     /// Whether terms are the current indices.
-    fn are_current(&self, pool: &Pool, terms: Option<NodeId>) -> bool {
+    pub(crate) fn are_current(&self, pool: &Pool, terms: Option<NodeId>) -> bool {
         let mut at = terms;
         for index in &self.indices {
             let Some(link) = at.and_then(|n| open(pool, n)) else {

@@ -1,4 +1,5 @@
 // One walk over a game, which collects what settling steps may be of.
+use crate::comparisons::{Comparison, Scope, comparison_at};
 use crate::facts::{Citation, Equated, Facts, is_name};
 use crate::variables::{Site, Variables};
 use cv_grounds::{Lateness, binders, items, open};
@@ -126,7 +127,8 @@ struct Walk {
 }
 
 /// What a walk over a game collects, each in the order of places: its variables, the bodies that may be dropped, the tests whose
-/// bodies are equal, the terms that may be rewritten, and the definitions where `false` is known, with the last one of a variable.
+/// bodies are equal, the terms that may be rewritten, the equalities among them, and the definitions where `false` is known, with the last
+/// one of a variable.
 #[derive(Drop)]
 pub struct Overview {
     alloc: Global,
@@ -134,11 +136,13 @@ pub struct Overview {
     pub prunings: Vec<Pruning>,
     pub mergers: Vec<Placed>,
     pub terms: Vec<Placed>,
+    pub comparisons: Vec<Comparison>,
     falsehoods: Vec<Falsehood>,
     unreached: HashMap<u32, usize>,
     lateness: Lateness,
     left: u32,
     facts: Facts,
+    scope: Scope,
     place: u32,
 }
 
@@ -151,11 +155,13 @@ impl Overview {
             prunings: Vec::new(alloc),
             mergers: Vec::new(alloc),
             terms: Vec::new(alloc),
+            comparisons: Vec::new(alloc),
             falsehoods: Vec::new(alloc),
             unreached: HashMap::new(alloc),
             lateness: Lateness::of(alloc, pool, game)?,
             left: MOST_EFFORT,
             facts: Facts::new(alloc),
+            scope: Scope::new(alloc),
             place: 0,
         };
         let walk = Walk {
@@ -375,6 +381,16 @@ impl Overview {
         }
     }
 
+    /// Notes an equality.
+    fn note_comparison(&mut self, pool: &Pool, node: Opened) -> Result<(), AllocError> {
+        if let Head::Eq = node.head {
+            let at = self.place;
+            let seen = comparison_at(self.alloc, &self.scope, &self.facts, pool, at, node)?;
+            self.comparisons.push(seen)?;
+        }
+        Ok(())
+    }
+
     /// Notes what is at a node.
     fn visit(
         &mut self,
@@ -386,6 +402,7 @@ impl Overview {
         if walk.is_rewritable && is_compound(node.head) {
             let place = self.place;
             self.terms.push(Placed { place, node: n })?;
+            self.note_comparison(pool, node)?;
         }
         match node.head {
             Head::If => self.note_test(pool, n, node),
@@ -400,6 +417,11 @@ impl Overview {
         let indices = self.facts.indices();
         let count = u32::try_from(indices.len()).unwrap_or(u32::MAX);
         self.variables.note_site(x, site, count)?;
+        let chosen = match site {
+            Site::Restriction(t) => Some(t),
+            _ => None,
+        };
+        self.scope.add(x, chosen)?;
         if let Some(citation) = self.facts.falsity()? {
             let indices = Vec::from_slice(self.alloc, self.facts.indices())?;
             self.unreached.insert(x, self.falsehoods.len())?;
@@ -436,7 +458,10 @@ impl Overview {
     /// Adds what is known behind a node, and notes what it defines.
     fn define(&mut self, pool: &Pool, walk: Walk, node: Opened) -> Result<(), AllocError> {
         match node.head {
-            Head::Repl(index, _) => self.facts.add_index(index),
+            Head::Repl(index, _) => {
+                self.facts.add_index(index)?;
+                self.scope.add(index, None)
+            }
             Head::In(_) => {
                 let Some(list) = node.first.and_then(|n| open(pool, n)) else {
                     return Ok(());
@@ -542,9 +567,11 @@ impl Overview {
                     return Ok(());
                 }
                 let before = self.facts.mark();
+                let above = self.scope.mark();
                 let inside = self.first(pool, walk, node)?;
                 self.walk(pool, child, inside)?;
                 self.facts.release(before);
+                self.scope.release(above);
             }
             walk = self.second(pool, walk, node)?;
             at = node.second;

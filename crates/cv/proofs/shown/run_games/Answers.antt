@@ -1,4 +1,4 @@
-use Rattle.std.proofs.Common.{ℕ, arith, List, length, refl, ap, map, sym, subst, ◌∙◌, Some, None, inr}
+use Rattle.std.proofs.Common.{ℕ, true, arith, List, length, refl, ap, map, sym, subst, ◌∙◌, Some, None, inr}
 use Rattle.std.specs.Prelude.{All}
 use Rattle.std.proofs.lemmas.List.{take_all}
 use Rattle.std.proofs.lemmas.List.Elements.{All-nil}
@@ -36,7 +36,7 @@ returns-clause-run c =
     inr (record {
       file = refl;
       content = ap (λ (ns : List (List ℕ)). content_in ns old.decls.own trees list file.game.root None) (take_all (length old.names) old.names (omega arith));
-      drawn = subst (λ (es : List Entry). DrawsAlong (declarations trees list) (known_to old.decls.own) old.decls.own (tree_at trees (Some file.game.root)) (map led (map (entry_in trees) es)) old.names old.names) (sym none) refl;
+      drawn = subst (λ (es : List Entry). DrawsAlong true (declarations trees list) (known_to old.decls.own) old.decls.own (tree_at trees (Some file.game.root)) (map led (map (entry_in trees) es)) old.names old.names) (sym none) refl;
       proceeds = shown_without r file c.requires.games (record { steps = c.new.ensures.items; trail = none; verdicts = still; status = refl });
       status = tt;
       live = record { file = c.requires.game; trail = subst (All (EntryLive (length trees))) (sym none) (All-nil (EntryLive (length trees))) };

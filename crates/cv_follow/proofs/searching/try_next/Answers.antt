@@ -3,8 +3,8 @@ use Rattle.cv_syntax.specs.declared.work.Work.{Work}
 use Rattle.cv_follow.proofs.Tries.{comes_nothing, comes_result, failed_result, kept_by, may_again}
 use Rattle.cv_follow.proofs.searching.try_next.Goals as goal
 
-pub write_and_take-requires-clause-may : goal.write_and_take-requires-clause-may
-write_and_take-requires-clause-may c =
+pub name_and_take-requires-clause-may : goal.name_and_take-requires-clause-may
+name_and_take-requires-clause-may c =
     let old = c.args.work.now in
     let mid : Work = record old { pool = c.propose-step.new.pool } in
     may_again old mid c.args.sequence.now c.args.sequence.now c.args.trail.now.items c.args.trail.now.items c.requires.may (kept_by old mid c.args.sequence.now c.args.trail.now.items c.propose-step.ensures.grows refl refl)
@@ -13,8 +13,8 @@ pub returns-in-Ok-Some-clause-tried : goal.returns-in-Ok-Some-clause-tried
 returns-in-Ok-Some-clause-tried c =
     let old = c.args.work.now in
     let mid : Work = record old { pool = c.propose-step.new.pool } in
-    comes_result old mid c.write_and_take.new.work c.args.may_move c.args.sequence.now c.args.sequence.now c.write_and_take.new.sequence c.args.trail.now.items c.args.trail.now.items c.write_and_take.new.trail.items c.requires.may.stands.live
-    (kept_by old mid c.args.sequence.now c.args.trail.now.items c.propose-step.ensures.grows refl refl) c.write_and_take.result c.write_and_take.ensures.tried
+    comes_result old mid c.name_and_take.new.work c.args.may_move c.args.sequence.now c.args.sequence.now c.name_and_take.new.sequence c.args.trail.now.items c.args.trail.now.items c.name_and_take.new.trail.items c.requires.may.stands.live
+    (kept_by old mid c.args.sequence.now c.args.trail.now.items c.propose-step.ensures.grows refl refl) c.name_and_take.result c.name_and_take.ensures.tried
 
 pub returns-in-Ok-None-clause-tried : goal.returns-in-Ok-None-clause-tried
 returns-in-Ok-None-clause-tried c =

@@ -1,4 +1,4 @@
-use Rattle.std.proofs.Common.{◌<◌, ◌≤◌, ap, ap₂, arith, length, map, subst, sym, take, refl, ◌∙◌, Some}
+use Rattle.std.proofs.Common.{◌<◌, ◌≤◌, false, ap, ap₂, arith, length, map, subst, sym, take, refl, ◌∙◌, Some}
 use Rattle.std.proofs.lemmas.List.{take_all}
 use Rattle.cv_pool.proofs.Growth.{Grows_refl, Grows_trans}
 use Rattle.cv_syntax.specs.Classes.{queries}
@@ -32,7 +32,7 @@ steps-init c =
     let limit = c.requires.limit in
     record {
       followed = followed_none (length trees) (declarations trees work.decls.list) work.decls.own trees s c.new-trail.result.items (tree_at trees (Some c.args.game.root)) c.new-trail.ensures.items c.start-sequence.ensures.steps c.start-sequence.ensures.sum c.start-sequence.ensures.closed (omega arith) same;
-      drawn = subst (λ es. DrawsAlong (declarations trees work.decls.list) (known_to work.decls.own) work.decls.own (tree_at trees (Some c.args.game.root)) (map led (map (entry_in trees) es)) work.names work.names) (sym c.new-trail.ensures.items) refl;
+      drawn = subst (λ es. DrawsAlong false (declarations trees work.decls.list) (known_to work.decls.own) work.decls.own (tree_at trees (Some c.args.game.root)) (map led (map (entry_in trees) es)) work.names work.names) (sym c.new-trail.ensures.items) refl;
       stands = record {
         live = subst (λ (g : Game). g.root.0 < length trees) (sym c.start-sequence.ensures.game) here;
         small = subst (λ t. size t ≤ 50000) (sym same) c.requires.small;
@@ -86,8 +86,8 @@ pub returns-in-Err-clause-drawn : goal.returns-in-Err-clause-drawn
 returns-in-Err-clause-drawn c =
     let fn = c.args.work.now in
     let new = c.push.new.work in
-    subst (DrawsAlong (declarations fn.pool.trees fn.decls.list) (known_to fn.decls.own) fn.decls.own (tree_at fn.pool.trees (Some c.args.game.root)) (map led (map (entry_in new.pool.trees) c.steps.trail.items)) fn.names) (sym c.in-Err.ensures.back)
-    (subst (λ ts. DrawsAlong (declarations fn.pool.trees fn.decls.list) (known_to fn.decls.own) fn.decls.own (tree_at fn.pool.trees (Some c.args.game.root)) (map led (map (entry_in ts) c.steps.trail.items)) fn.names c.steps.work.names) (sym c.in-Err.ensures.kept) c.steps.invariant.drawn)
+    subst (DrawsAlong false (declarations fn.pool.trees fn.decls.list) (known_to fn.decls.own) fn.decls.own (tree_at fn.pool.trees (Some c.args.game.root)) (map led (map (entry_in new.pool.trees) c.steps.trail.items)) fn.names) (sym c.in-Err.ensures.back)
+    (subst (λ ts. DrawsAlong false (declarations fn.pool.trees fn.decls.list) (known_to fn.decls.own) fn.decls.own (tree_at fn.pool.trees (Some c.args.game.root)) (map led (map (entry_in ts) c.steps.trail.items)) fn.names c.steps.work.names) (sym c.in-Err.ensures.kept) c.steps.invariant.drawn)
 
 pub returns-clause-walk : goal.returns-clause-walk
 returns-clause-walk c =

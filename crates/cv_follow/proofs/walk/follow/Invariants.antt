@@ -1,4 +1,4 @@
-use Rattle.std.proofs.Common.{◌≡◌, ◌≤◌, Some, length, map, take}
+use Rattle.std.proofs.Common.{◌≡◌, ◌≤◌, false, Some, length, map, take}
 use Rattle.cv_pool.specs.PoolView.{Grows}
 use Rattle.cv_syntax.specs.Declarations.{declarations}
 use Rattle.cv_syntax.specs.PoolTrees.{tree_at}
@@ -13,7 +13,7 @@ use Rattle.cv_follow.proofs.walk.follow.Given as goal
 abbrev pub invariant-steps : goal.invariant-steps
 invariant-steps l = record {
   followed : HasFollowed (length l.fn.work.pool.trees) (declarations l.fn.work.pool.trees l.fn.work.decls.list) l.fn.work.decls.own (tree_at l.fn.work.pool.trees (Some l.fn.game.root)) (trees_of l.fn.work.pool.trees (take l.step-index l.script)) l.work.pool.trees l.sequence l.trail.items;
-  drawn : DrawsAlong (declarations l.fn.work.pool.trees l.fn.work.decls.list) (known_to l.fn.work.decls.own) l.fn.work.decls.own (tree_at l.fn.work.pool.trees (Some l.fn.game.root)) (map led (map (entry_in l.work.pool.trees) l.trail.items)) l.fn.work.names l.work.names;
+  drawn : DrawsAlong false (declarations l.fn.work.pool.trees l.fn.work.decls.list) (known_to l.fn.work.decls.own) l.fn.work.decls.own (tree_at l.fn.work.pool.trees (Some l.fn.game.root)) (map led (map (entry_in l.work.pool.trees) l.trail.items)) l.fn.work.names l.work.names;
   stands : Stands l.work.pool.trees l.work.decls l.sequence;
   grows : Grows l.fn.work.pool l.work.pool;
   room : length l.work.pool.trees ≤ most_pool;

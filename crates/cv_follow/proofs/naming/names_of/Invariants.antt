@@ -1,0 +1,6 @@
+use Rattle.std.proofs.Common.{◌≡◌, map, take}
+use Rattle.cv_names.specs.declared.names.NameId.{NameId}
+use Rattle.cv_follow.proofs.naming.names_of.Given as goal
+
+abbrev pub invariant-numbers : goal.invariant-numbers
+invariant-numbers l = map (λ (y : NameId). y.0) l.names.items ≡ take l.number-index l.numbers
