@@ -9,7 +9,7 @@ use Rattle.cv_accept_laws.proofs.Ready.{file_of}
 use Rattle.cv_context.specs.declared.products.shape.Shape.{Shape as ShapeInCode}
 use Rattle.cv_context.specs.products.Shapes.{Shape, shape_of}
 use Rattle.cv_context.specs.products.ShapesInCode.{shape_in}
-use Rattle.cv_context_counts.proofs.Runs.{runs}
+use Rattle.cv_context_files.proofs.counts.Runs.{runs}
 use Rattle.cv_context_left_side.specs.refusals.Reducible.{IsReducible}
 use Rattle.cv_derive_laws.specs.stores.Soundness.{DerivationsHold, DerivedBodiesAreUnreached}
 use Rattle.cv_follow.specs.Scripts.{Told, known_to}
@@ -18,7 +18,7 @@ use Rattle.cv_kernel.specs.Proofs.{IsProof, IsTransition, Transition, closed_by,
 use Rattle.cv_kernel.specs.Sayings.{Accepted, MaySay}
 use Rattle.cv_match_laws.proofs.answers.Many.{are_answers}
 use Rattle.cv_meaning.specs.Interpretation.{setting_with}
-use Rattle.cv_meaning_contexts.specs.Sides.{side_of}
+use Rattle.cv_meaning.specs.contexts.Sides.{side_of}
 use Rattle.cv_report.specs.declared.report.Entry.{Entry}
 use Rattle.cv_report.specs.declared.report.Report.{Report}
 use Rattle.cv_scene.specs.Reductions.{context_of_game}
@@ -29,9 +29,9 @@ use Rattle.cv_sequences.specs.Chains.{IsChain, IsFileOf, Link}
 use Rattle.cv_sequences.proofs.Chains.{games_ready}
 use Rattle.cv_sequences.proofs.Tested.{unrefused}
 use Rattle.cv_steps.specs.Sequences.{scene}
-use Rattle.cv_steps_crypto.specs.Conditions.{equivalence_of, failure_of}
-use Rattle.cv_steps_crypto.specs.Steps.{first_answer, reduction_of}
-use Rattle.cv_steps_crypto.proofs.Accepted.{accepted}
+use Rattle.cv_steps_laws.specs.crypto.Conditions.{equivalence_of, failure_of}
+use Rattle.cv_steps_laws.specs.crypto.Steps.{first_answer, reduction_of}
+use Rattle.cv_steps_laws.proofs.crypto.Accepted.{accepted}
 use Rattle.cv.specs.Calls.{AreBounded, HasBoundedCalls}
 use Rattle.cv.specs.Contexts.{contexts_in}
 use Rattle.cv.specs.Runs.{Runs}

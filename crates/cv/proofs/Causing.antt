@@ -7,14 +7,14 @@ use Rattle.std.specs.Prelude.{IfSome, IsNone, IsSome, IsSomeAnd, option_map}
 use Rattle.cv_lex.specs.declared.LexError.{LexError}
 use Rattle.cv_lex.specs.Lexis.{Token, tokens_of}
 use Rattle.cv_parse_tables.specs.terminals.Signs.{signs_of}
-use Rattle.cv_script_reader.specs.declared.error.ScriptError.{ScriptError}
-use Rattle.cv_script_reader.specs.Trees.{in_room, tree_read}
-use Rattle.cv_script_reader.proofs.Steps.{read_in_room}
+use Rattle.cv_script.specs.declared.reader.error.ScriptError.{ScriptError}
+use Rattle.cv_script.specs.reader.Trees.{in_room, tree_read}
+use Rattle.cv_script.proofs.reader.Steps.{read_in_room}
 use Rattle.cv_script_laws.specs.forms.Scripts.{IsSomeScript}
 use Rattle.cv_script_laws.proofs.forms.Refusals.{dead_end}
 use Rattle.cv_parse_notation.specs.Whole.{Dead}
 use Rattle.cv_script.specs.rows.Rows.{built_script_row}
-use Rattle.cv_script_reader.specs.declared.error.ScriptError.TheVariants as script
+use Rattle.cv_script.specs.declared.reader.error.ScriptError.TheVariants as script
 use Rattle.cv_parse_notation.specs.declared.sign.Sign.{Sign}
 use Rattle.cv_parse_grammar.specs.Names as names
 use Rattle.cv_parse_grammar.specs.depth.Files.{IsDeadAtEveryDepth, IsNestedTooDeep}
@@ -26,12 +26,12 @@ use Rattle.cv_parse.specs.Parsed.{Parsed, parsed}
 use Rattle.cv_parse.specs.Says.{HasDepth, HasNodes, HasWeight, IsLarge, IsMisnamedAt}
 use Rattle.cv_parse.proofs.Exactness.{deep_game, heavy_trees, large_game, said_is_saying, twice_named, unknown_name}
 use Rattle.cv_syntax_trees.specs.Declarations.{Declaration}
-use Rattle.cv_typing_rules.specs.declared.fault.Fault.{Fault}
-use Rattle.cv_typing_rules.specs.declared.fault.Fault.TheVariants as type
-use Rattle.cv_typing_rules.specs.declared.fault.TypeFault.{TypeFault}
-use Rattle.cv_typing_rules.specs.Parts.{IsFirstIn, Part, file_parts}
-use Rattle.cv_typing_rules.specs.Refusals.{IsFirstRefusal, refusal}
-use Rattle.cv_typing_rules.proofs.First.{finds_first_in, parts_typed_where_none}
+use Rattle.cv_scope_rules.specs.declared.typing.fault.Fault.{Fault}
+use Rattle.cv_scope_rules.specs.declared.typing.fault.Fault.TheVariants as type
+use Rattle.cv_scope_rules.specs.declared.typing.fault.TypeFault.{TypeFault}
+use Rattle.cv_scope_rules.specs.typing.Parts.{IsFirstIn, Part, file_parts}
+use Rattle.cv_scope_rules.specs.typing.Refusals.{IsFirstRefusal, refusal}
+use Rattle.cv_scope_rules.proofs.typing.First.{finds_first_in, parts_typed_where_none}
 use Rattle.cv_scope_rules.specs.declared.fault.Fault.{Fault as ScopeRules}
 use Rattle.cv_scope_rules.specs.declared.fault.ScopeFault.{ScopeFault}
 use Rattle.cv_scope_rules.specs.Refusals.{refusal as scope_refusal}
@@ -40,14 +40,14 @@ use Rattle.cv_scope_rules.specs.Standing.{at_root}
 use Rattle.cv_scope_rules.proofs.First.{finds_first, scoped_where_none}
 use Rattle.cv_group.specs.declared.fault.GroupFault.{GroupFault}
 use Rattle.cv_group.specs.Refusals.{refused_by}
-use Rattle.cv_group_rules.specs.Symbols.{symbols_of}
-use Rattle.cv_group_rules.specs.Faults.{GroupRule, equivalences_in}
-use Rattle.cv_group_rules.proofs.Deciding.{accepted_more as all_accepted, first_refused as first_group_refused}
+use Rattle.cv_group.specs.rules.Symbols.{symbols_of}
+use Rattle.cv_group.specs.rules.Faults.{GroupRule, equivalences_in}
+use Rattle.cv_group.proofs.rules.Deciding.{accepted_more as all_accepted, first_refused as first_group_refused}
 use Rattle.cv_meaning.specs.Queries.{queries_in}
 use Rattle.cv_query_form.proofs.First.{finds_first_law as first_refused_is_first}
 use Rattle.cv_accept.specs.declared.error.FileError.{FileError}
 use Rattle.cv_accept.specs.declared.error.FileError.TheVariants as fault
-use Rattle.cv_script_reader.specs.Scripts.{items}
+use Rattle.cv_script.specs.reader.Scripts.{items}
 use Rattle.cv_accept.specs.Accepted.{Content, IsFull, Refuses, asks_unbuilt, block_by, block_of, content_of, group_fault, of_block, of_form, of_groups, of_parsed, of_queries, of_scopes, of_script, of_tokens, of_types, query_fault, read_of, scope_fault, stops_at_prime, there, type_fault, with_pairs}
 use Rattle.cv_accept.specs.Places.{nodes_before}
 use Rattle.cv_accept.proofs.Places.{behind_none, behind_some}

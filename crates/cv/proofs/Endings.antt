@@ -17,7 +17,7 @@ use Rattle.cv_accept.specs.Accepted.{Content, IsFile, IsFull, Refuses, read_of, 
 use Rattle.cv_accept.specs.Works.{content_nodes}
 use Rattle.cv_meaning.specs.Queries.{queries_in}
 use Rattle.cv_accept.proofs.Readings.{file_is_read, full_content}
-use Rattle.cv_script_reader.proofs.Steps.{items_nodes}
+use Rattle.cv_script.proofs.reader.Steps.{items_nodes}
 use Rattle.std.proofs.lemmas.List.{length-map}
 use Rattle.cv_kernel.specs.Proofs.{closed_by, nodes_along}
 use Rattle.cv_scene.specs.Scenes.{Scene}

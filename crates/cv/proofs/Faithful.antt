@@ -14,13 +14,13 @@ use Rattle.cv_bound.specs.declared.terms.Experiment.TheVariants.{Events}
 use Rattle.cv_bound.specs.Sums.{added, with_terms}
 use Rattle.cv_bound.specs.declared.cost.Cost.TheVariants as bound
 use Rattle.cv_bound.specs.declared.terms.Term.{Term}
-use Rattle.cv_bound_values.specs.Values.{Advantages, sum_value}
+use Rattle.cv_steps.specs.values.Values.{Advantages, sum_value}
 use Rattle.cv_meaning.specs.Advantage.{chance_of}
 use Rattle.cv_meaning.specs.Chances.{AtMost, distance}
 use Rattle.cv_meaning.specs.Experiments.{Experiment}
 use Rattle.cv_meaning.specs.Interpretation.{Interpretation, setting_of}
 use Rattle.cv_meaning.specs.Runs.{Adversary}
-use Rattle.cv_meaning_contexts.specs.Sides.{Context}
+use Rattle.cv_meaning.specs.contexts.Sides.{Context}
 use Rattle.cv_meaning_chances.specs.Fractions.{HasTapes}
 use Rattle.cv_kernel.specs.Closings.{Closing, closing_in, closing_of_items}
 use Rattle.cv_kernel.specs.Proofs.{IsProof, IsTransition, Transition, closed_by, game_behind, push, start}
@@ -35,8 +35,8 @@ use Rattle.cv_sequences.specs.Chains.{ByEquivalence, ByStep, HasPrice, IsChain, 
 use Rattle.cv_sequences.specs.Chains as chains
 use Rattle.cv_sequences.proofs.Chains.{chain_ends, has_tapes, taped as taped_sum, valued as valued_along, within}
 use Rattle.cv_steps.specs.Sequences.{scene}
-use Rattle.cv_steps_crypto.specs.Conditions.{equivalence_of}
-use Rattle.cv_steps_crypto.specs.Steps.{reduction_of}
+use Rattle.cv_steps_laws.specs.crypto.Conditions.{equivalence_of}
+use Rattle.cv_steps_laws.specs.crypto.Steps.{reduction_of}
 use Rattle.cv_derive_laws.specs.stores.Soundness.{DerivationsHold, DerivedBodiesAreUnreached}
 use Rattle.cv.specs.Contexts.{context_by, context_for, contexts_from, contexts_in, contexts_of_file, game_behind as game_of_entry, with_context}
 use Rattle.cv.specs.Games.{HasCloseGames, IsWithin}
@@ -47,7 +47,7 @@ use Rattle.cv.specs.Strategy.{TakesSteps, declared_in, file_in, game_in, steps_i
 use Rattle.cv.specs.Values.{Contexts, advantage_of, advantages_in, context_of}
 use Rattle.cv_sequences.specs.secrets.Sums.{summed_by}
 use Rattle.cv_sequences.proofs.secrets.Sums.{plain, put}
-use Rattle.cv_kernel_laws.proofs.rules.Sound.{sound}
+use Rattle.cv_accept_laws.proofs.kernel.rules.Sound.{sound}
 use Rattle.cv_follow.proofs.StepKinds.{Kind, closure, kind_of, passage, reduction}
 use Rattle.cv_follow.proofs.StepKinds as kind
 use Rattle.cv_accept_laws.proofs.Ready.{file_of, taped, valued}

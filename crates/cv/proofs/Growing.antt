@@ -12,7 +12,7 @@ use Rattle.cv_syntax_trees.specs.Tree.{Tree}
 use Rattle.cv_syntax.specs.PoolTrees.{tree_at}
 use Rattle.cv_syntax.specs.declared.work.Work.{Work}
 use Rattle.cv_parse.specs.Declaring.{IsBelow}
-use Rattle.cv_script_reader.specs.Scripts.{trees_of}
+use Rattle.cv_script.specs.reader.Scripts.{trees_of}
 use Rattle.cv_script.specs.declared.steps.Step.{Step}
 use Rattle.cv_accept.specs.Accepted.{Content}
 use Rattle.cv_accept.specs.Works.{content_at, content_in, script_in}

@@ -8,7 +8,7 @@ use Rattle.cv_syntax_trees.specs.Declarations.{Declaration}
 use Rattle.cv_syntax_trees.specs.Tree.{Tree, Empty, Node}
 use Rattle.cv_bound.specs.declared.terms.Term.{Term}
 use Rattle.cv_bound.specs.Sums.{added}
-use Rattle.cv_bound_values.specs.Values.{sum_value}
+use Rattle.cv_steps.specs.values.Values.{sum_value}
 use Rattle.cv_meaning.specs.Advantage.{chance_of, secrecy, secrecy_query}
 use Rattle.cv_meaning.specs.Chances.{AtMost, zero_chance}
 use Rattle.cv_meaning.specs.Experiments.{Breaks, Experiment, Guesses}
@@ -17,7 +17,7 @@ use Rattle.cv_meaning.specs.Runs.{Adversary, Random, Real}
 use Rattle.cv_meaning.specs.Satisfies.{Satisfies}
 use Rattle.cv_meaning_chances.specs.Fractions.{HasTapes}
 use Rattle.cv_meaning.specs.Queries.{queries_in}
-use Rattle.cv_query_kinds.specs.Built.{asks_unbuilt, has_unbuilt, is_unbuilt_step, lacks_form}
+use Rattle.cv_query.specs.kinds.Built.{asks_unbuilt, has_unbuilt, is_unbuilt_step, lacks_form}
 use Rattle.cv_query_certificates.specs.Accepted.{IsAccepted, IsEventsProof, IsSecretProof, is_built}
 use Rattle.cv_query_certificates.specs.Failures.{first_failure}
 use Rattle.cv_accept.specs.Accepted.{Content, asks_unbuilt as file_unbuilt, read_of, most_bytes}
@@ -27,7 +27,7 @@ use Rattle.cv_parse_tables.specs.terminals.Signs.{signs_of}
 use Rattle.cv_accept.specs.Accepted.{most_pool}
 use Rattle.cv_report.specs.declared.report.Report.{Report}
 use Rattle.cv_syntax.specs.declared.work.File.{File}
-use Rattle.cv_query_kinds.specs.Closed.{HasClosedQueries, IsClosedQuery}
+use Rattle.cv_query.specs.kinds.Closed.{HasClosedQueries, IsClosedQuery}
 use Rattle.cv_query_laws.specs.correspondences.Premises.{IsProved}
 use Rattle.cv_scene.specs.Scenes.{Scene}
 use Rattle.cv_scene.specs.Sights.{from_one}

@@ -10,7 +10,7 @@ use Rattle.cv_syntax.specs.PoolTrees.{tree_at}
 use Rattle.cv_accept.specs.Accepted.{Content, read_of, most_bytes}
 use Rattle.cv_accept_laws.proofs.Ready.{file_of, taped, valued}
 use Rattle.cv_derive_laws.specs.stores.Soundness.{DerivationsHold, DerivedBodiesAreUnreached}
-use Rattle.cv_bound_values.proofs.Adding.{factor_positive}
+use Rattle.cv_steps.proofs.values.Adding.{factor_positive}
 use Rattle.cv_follow.specs.Scripts.{Told, entry_in, entry_of, known_to}
 use Rattle.cv_follow.proofs.StepKinds.{kind_of}
 use Rattle.cv_kernel.specs.Closings.{Closing, closing_in}
@@ -23,8 +23,8 @@ use Rattle.cv_meaning.specs.Runs.{Adversary}
 use Rattle.cv_meaning.specs.Satisfies.{Satisfies}
 use Rattle.cv_meaning_chances.specs.Fractions.{HasTapes}
 use Rattle.cv_meaning_chances.specs.values.Values.{HasValuesIn}
-use Rattle.cv_meaning_contexts.specs.ContextAdvantage.{context_chance}
-use Rattle.cv_meaning_contexts.specs.Groups.{Left, Right}
+use Rattle.cv_meaning.specs.contexts.ContextAdvantage.{context_chance}
+use Rattle.cv_meaning.specs.contexts.Groups.{Left, Right}
 use Rattle.cv_accept.specs.Accepted.{most_pool}
 use Rattle.cv_report.specs.declared.report.Entry.{Entry}
 use Rattle.cv_report.specs.declared.report.Report.{Report}
@@ -37,8 +37,8 @@ use Rattle.cv_sequences.proofs.secrets.Alike.{left_positive}
 use Rattle.cv_steps.specs.Sequences.{scene}
 use Rattle.cv_sequences.proofs.costs.Costs.{cost_worth}
 use Rattle.cv_steps.specs.Steps.{Collisions, Zero}
-use Rattle.cv_steps_crypto.specs.Steps.{reduction_of}
-use Rattle.cv_steps_crypto.proofs.Accepted.{accepted}
+use Rattle.cv_steps_laws.specs.crypto.Steps.{reduction_of}
+use Rattle.cv_steps_laws.proofs.crypto.Accepted.{accepted}
 use Rattle.cv.specs.Contexts.{contexts_in}
 use Rattle.cv.specs.Runs.{Runs}
 use Rattle.cv.specs.Steps.{AreEqual, AreOfCost, HasCloseSteps, IsCloseStep, game_along}

@@ -7,7 +7,7 @@ use Rattle.cv_syntax_trees.specs.Tree.{Tree, Empty, Node}
 use Rattle.cv_accept.specs.Accepted.{Content, most_bytes, read_of}
 use Rattle.cv_accept.proofs.Readings.{accepted}
 use Rattle.cv_accept_laws.proofs.Ready.{file_of, valued}
-use Rattle.cv_bound_values.specs.Values.{Advantages}
+use Rattle.cv_steps.specs.values.Values.{Advantages}
 use Rattle.cv_derive_laws.specs.stores.Soundness.{DerivationsHold, DerivedBodiesAreUnreached}
 use Rattle.cv_follow.specs.Scripts.{known_to}
 use Rattle.cv_match_laws.specs.answers.Answers.{file_scene}
@@ -20,7 +20,7 @@ use Rattle.cv_meaning.specs.Satisfies.{Satisfies}
 use Rattle.cv_meaning_chances.specs.Fractions.{HasTapes}
 use Rattle.cv_meaning_chances.specs.values.Values.{HasValuesIn}
 use Rattle.cv_meaning_chances.proofs.values.Tapes.{tapes}
-use Rattle.cv_meaning_contexts.specs.ContextAdvantage.{context_advantage}
+use Rattle.cv_meaning.specs.contexts.ContextAdvantage.{context_advantage}
 use Rattle.cv_accept.specs.Accepted.{most_pool}
 use Rattle.cv_query_form.specs.Rules.{AreAsked, MayBeAsked}
 use Rattle.cv_scene.specs.Reductions.{context_of_game}
@@ -29,10 +29,10 @@ use Rattle.cv_sequences.specs.Chains.{ByEquivalence, ByStep, HasPrice, HasTapedP
 use Rattle.cv_sequences.specs.Chains as chains
 use Rattle.cv_sequences.proofs.Chains.{chain_ends}
 use Rattle.cv_steps.specs.Sequences.{scene}
-use Rattle.cv_steps_crypto.specs.Conditions.{equivalence_by}
-use Rattle.cv_steps_crypto.specs.Steps.{reduction_of}
-use Rattle.cv_steps_crypto.proofs.Accepted.{accepted as accepted_step}
-use Rattle.cv_typing_rules.specs.Signature.{declaration_of}
+use Rattle.cv_steps_laws.specs.crypto.Conditions.{equivalence_by}
+use Rattle.cv_steps_laws.specs.crypto.Steps.{reduction_of}
+use Rattle.cv_steps_laws.proofs.crypto.Accepted.{accepted as accepted_step}
+use Rattle.cv_scope_rules.specs.typing.Signature.{declaration_of}
 use Rattle.cv.proofs.Closers.{all_put, closed_at, contains_at}
 
 -- what each choice of a game, and each test that a query asks for, has

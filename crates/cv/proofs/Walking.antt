@@ -16,9 +16,9 @@ use Rattle.cv_script.specs.Views as items
 use Rattle.cv_steps.specs.Costs.{cost_of}
 use Rattle.cv_steps.specs.Judgements.{Judgement}
 use Rattle.cv_steps.specs.Judgements as judgement
-use Rattle.cv_steps_crypto.specs.Conditions.{equivalence_of, failure_of}
-use Rattle.cv_steps_crypto.specs.Steps.{IsOutcome, IsOutcomeBy, is_next, outcome_with}
-use Rattle.cv_steps_crypto.specs.Steps as outcome
+use Rattle.cv_steps_laws.specs.crypto.Conditions.{equivalence_of, failure_of}
+use Rattle.cv_steps_laws.specs.crypto.Steps.{IsOutcome, IsOutcomeBy, is_next, outcome_with}
+use Rattle.cv_steps_laws.specs.crypto.Steps as outcome
 use Rattle.cv_follow.specs.Scripts.{LacksRoomFor, Stops, most_steps, no_room, refused, too_deep, too_large, too_many}
 use Rattle.cv.specs.Strategy.{GoesOn, IsAcceptance, context_needs}
 use Rattle.cv_follow.proofs.StepKinds.{IsJudged, Kind, kind_of}

@@ -4,13 +4,13 @@ use Rattle.std.specs.Prelude.{◌≡◌, ℕ, suc, List, Some, IfSome, MatchOpti
 use Rattle.cv_context.specs.declared.products.shape.Shape.{Shape as ShapeInCode}
 use Rattle.cv_context.specs.products.Shapes.{Shape}
 use Rattle.cv_context.specs.products.ShapesInCode.{shape_in}
-use Rattle.cv_context_counts.specs.Counts.{IsWithinShape}
+use Rattle.cv_context_files.specs.counts.Counts.{IsWithinShape}
 use Rattle.cv_meaning.specs.Experiments.{visits_of_run}
 use Rattle.cv_meaning.specs.Interpretation.{Interpretation, setting_with}
 use Rattle.cv_meaning.specs.Runs.{Adversary, Mode}
 use Rattle.cv_meaning.specs.Tapes.{Tape}
-use Rattle.cv_meaning_contexts.specs.Groups.{Which}
-use Rattle.cv_meaning_contexts.specs.Sides.{Context, side_of}
+use Rattle.cv_meaning.specs.contexts.Groups.{Which}
+use Rattle.cv_meaning.specs.contexts.Sides.{Context, side_of}
 use Rattle.cv_report.specs.declared.report.Entry.{Entry}
 use Rattle.cv_report.specs.declared.report.Report.{Report}
 use Rattle.cv_syntax_trees.specs.Declarations.{Declaration}

@@ -9,7 +9,7 @@ use Rattle.cv_parse_tables.specs.terminals.ScriptSigns.{between, script_signs}
 use Rattle.cv_parse_tables.specs.terminals.Signs.{signs_of}
 use Rattle.cv_script_laws.specs.forms.Scripts.{IsSomeScript}
 use Rattle.cv_parse_notation.specs.Whole.{Dead}
-use Rattle.cv_script_reader.specs.declared.error.ScriptError.TheVariants as block
+use Rattle.cv_script.specs.declared.reader.error.ScriptError.TheVariants as block
 use Rattle.cv_kernel.specs.Proofs.{IsProof, Transition, closed_by, nodes_along}
 use Rattle.cv_parse_notation.specs.declared.sign.Sign.{Sign}
 use Rattle.cv_parse_grammar.specs.Names as names
@@ -17,23 +17,23 @@ use Rattle.cv_parse_grammar.specs.depth.Files.{IsDeadAtEveryDepth, IsNestedTooDe
 use Rattle.cv_parse.specs.declared.error.ParseError.TheVariants.{Syntax, Nesting, NameTwice, NameUnknown}
 use Rattle.cv_parse.specs.Parsed.{Parsed}
 use Rattle.cv_parse.specs.Says.{HasDepth, HasNodes, HasWeight, IsLarge, IsMisnamedAt, Says}
-use Rattle.cv_typing_rules.specs.declared.fault.TypeFault.{TypeFault}
-use Rattle.cv_typing_rules.specs.Parts.{IsTypedFile, file_parts}
-use Rattle.cv_typing_rules.specs.Refusals.{IsFirstRefusal}
+use Rattle.cv_scope_rules.specs.declared.typing.fault.TypeFault.{TypeFault}
+use Rattle.cv_scope_rules.specs.typing.Parts.{IsTypedFile, file_parts}
+use Rattle.cv_scope_rules.specs.typing.Refusals.{IsFirstRefusal}
 use Rattle.cv_scope_rules.specs.declared.fault.ScopeFault.{ScopeFault}
 use Rattle.cv_scope_rules.specs.declared.fault.Fault.{Fault}
 use Rattle.cv_scope_rules.specs.Refusals.{refusal}
 use Rattle.cv_scope_rules.specs.Scope.{IsFirstFault, IsScoped}
 use Rattle.cv_group.specs.declared.fault.GroupFault.{GroupFault}
 use Rattle.cv_group.specs.Refusals.{refused_by}
-use Rattle.cv_group_rules.specs.Symbols.{symbols_of}
-use Rattle.cv_group_rules.specs.Faults.{AreAccepted, GroupRule, IsFirstGroupFault, equivalences_in}
+use Rattle.cv_group.specs.rules.Symbols.{symbols_of}
+use Rattle.cv_group.specs.rules.Faults.{AreAccepted, GroupRule, IsFirstGroupFault, equivalences_in}
 use Rattle.cv_meaning.specs.Queries.{queries_in}
 use Rattle.cv_query_form.specs.Rules.{IsFirstRefused}
 use Rattle.cv_syntax_trees.specs.Tree.{Tree}
 use Rattle.cv_syntax.specs.declared.work.File.{File}
 use Rattle.cv_accept.specs.Accepted.{IsFull, asks_unbuilt, block_of, stops_at_prime, most_bytes, most_pool}
-use Rattle.cv_script_reader.specs.Scripts.{items}
+use Rattle.cv_script.specs.reader.Scripts.{items}
 use Rattle.cv_accept.specs.Places.{nodes_before}
 use Rattle.cv_words.specs.Forms.{Asked}
 use Rattle.cv_report.specs.declared.report.FileFault.TheVariants.{Lex, Parse, Script, Types, Scope, Group, Query}

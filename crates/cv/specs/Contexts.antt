@@ -10,11 +10,11 @@ use Rattle.cv_syntax.specs.Declarations.{declarations}
 use Rattle.cv_syntax_trees.specs.declared.head.Head.TheVariants as head
 use Rattle.cv_syntax_trees.specs.Tree.{Tree, Node}
 use Rattle.cv_syntax.specs.PoolTrees.{tree_at}
-use Rattle.cv_meaning_contexts.specs.Sides.{Context}
+use Rattle.cv_meaning.specs.contexts.Sides.{Context}
 use Rattle.cv_scene.specs.Reductions.{context_of_game}
 use Rattle.cv_match_laws.specs.answers.Answers.{file_scene}
-use Rattle.cv_steps_crypto.specs.Conditions.{equivalence_of}
-use Rattle.cv_steps_crypto.specs.Steps.{reduction_of}
+use Rattle.cv_steps_laws.specs.crypto.Conditions.{equivalence_of}
+use Rattle.cv_steps_laws.specs.crypto.Steps.{reduction_of}
 use Rattle.cv_report.specs.declared.report.Entry.{Entry}
 use Rattle.cv_report.specs.declared.report.Report.{Report}
 use Rattle.cv.specs.Values.{Contexts}

@@ -2,7 +2,7 @@
 -- between them. Sequences of games are those of Blanchet, TDSC 2008.
 use Rattle.std.specs.Prelude.{◌≡◌, ℕ, ◌+◌, List, [], map, take, Some, IfSome, slice_get}
 use Rattle.cv_bound.specs.declared.terms.Term.{Term}
-use Rattle.cv_bound_values.specs.Values.{sum_value}
+use Rattle.cv_steps.specs.values.Values.{sum_value}
 use Rattle.cv_meaning.specs.Advantage.{IsAsked, chance_of}
 use Rattle.cv_meaning.specs.Chances.{AtMost, Chance, distance}
 use Rattle.cv_meaning.specs.Experiments.{Experiment}

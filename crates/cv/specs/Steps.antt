@@ -4,7 +4,7 @@ use Rattle.std.specs.Prelude.{◌≡◌, ℕ, false, List, [], ◌∷◌, map, t
 use Rattle.cv_bound.specs.declared.cost.Collision.{Collision}
 use Rattle.cv_bound.specs.declared.cost.Cost.{Cost}
 use Rattle.cv_bound.specs.declared.cost.Cost.TheVariants.{Advantage, Collisions, Zero}
-use Rattle.cv_bound_values.specs.Values.{collision_value, cost_value}
+use Rattle.cv_steps.specs.values.Values.{collision_value, cost_value}
 use Rattle.cv_meaning.specs.Advantage.{IsAsked, chance_of}
 use Rattle.cv_meaning.specs.Chances.{AtMost, Chance, Same, distance}
 use Rattle.cv_meaning.specs.Experiments.{Experiment}
@@ -13,8 +13,8 @@ use Rattle.cv_meaning.specs.Queries.{queries_in}
 use Rattle.cv_meaning.specs.Runs.{Adversary}
 use Rattle.cv_meaning.specs.Satisfies.{Satisfies}
 use Rattle.cv_meaning_chances.specs.Fractions.{HasTapes, sum_of}
-use Rattle.cv_meaning_contexts.specs.ContextAdvantage.{context_chance}
-use Rattle.cv_meaning_contexts.specs.Groups.{Left, Right}
+use Rattle.cv_meaning.specs.contexts.ContextAdvantage.{context_chance}
+use Rattle.cv_meaning.specs.contexts.Groups.{Left, Right}
 use Rattle.cv_pool.specs.KindTree.{KindTree}
 use Rattle.cv_report.specs.declared.report.Entry.{Entry}
 use Rattle.cv_report.specs.declared.report.Report.{Report}

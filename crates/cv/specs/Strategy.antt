@@ -34,13 +34,13 @@ use Rattle.cv_scene.specs.Scenes.{Scene}
 use Rattle.cv_script.specs.Views.{StepItems, items_of_step}
 use Rattle.cv_script.specs.Views as items
 use Rattle.cv_steps.specs.Sequences.{scene}
-use Rattle.cv_steps_crypto.specs.Conditions.{equivalence_of}
+use Rattle.cv_steps_laws.specs.crypto.Conditions.{equivalence_of}
 use Rattle.cv.specs.Contexts.{contexts_in}
 use Rattle.cv.specs.Faults.{status_of as ended_by}
 use Rattle.cv_follow.specs.Scripts.{EndsScript, Follows, entry_in, entry_of, first_open, known_to, most_steps, verdicts_of}
 use Rattle.cv_follow.specs.Fillings.{StandsFor, has_word}
 use Rattle.cv_follow.specs.Searches.{AreMoves, EndsSearch, Finds}
-use Rattle.cv_query_kinds.specs.Built.{has_unbuilt}
+use Rattle.cv_query.specs.kinds.Built.{has_unbuilt}
 use Rattle.cv.specs.Values.{Contexts, value_of}
 
 -- `games` asks for no verdicts

@@ -9,12 +9,12 @@ use Rattle.cv_meaning.specs.Runs.{Adversary}
 use Rattle.cv_meaning.specs.Runs as mode
 use Rattle.cv_meaning.specs.Experiments as meaning
 use Rattle.cv_meaning.specs.Chances.{Chance, zero_chance}
-use Rattle.cv_meaning_contexts.specs.Sides.{Context}
-use Rattle.cv_meaning_contexts.specs.ContextAdvantage.{context_advantage}
+use Rattle.cv_meaning.specs.contexts.Sides.{Context}
+use Rattle.cv_meaning.specs.contexts.ContextAdvantage.{context_advantage}
 use Rattle.cv_bound.specs.declared.terms.Experiment.{Experiment}
 use Rattle.cv_bound.specs.declared.terms.Experiment.TheVariants.{Events, Real, Random}
 use Rattle.cv_bound.specs.declared.terms.Term.{Term}
-use Rattle.cv_bound_values.specs.Values.{Advantages, sum_value}
+use Rattle.cv_steps.specs.values.Values.{Advantages, sum_value}
 
 -- the contexts of cryptographic steps, each with the number of its step
 abbrev pub Contexts : Type 0

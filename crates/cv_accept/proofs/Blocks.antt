@@ -31,14 +31,14 @@ use Rattle.cv_parse_tables.proofs.terminals.Walk.{signs_from_cons, small}
 use Rattle.cv_parse_tables.specs.terminals.Braces.{file_tokens}
 use Rattle.cv_parse.specs.Declaring.{IsBelow}
 use Rattle.cv_parse.specs.Parsed.{held_in}
-use Rattle.cv_script_reader.specs.declared.error.ScriptError.{ScriptError}
-use Rattle.cv_script_reader.specs.declared.error.ScriptError.TheVariants as script
+use Rattle.cv_script.specs.declared.reader.error.ScriptError.{ScriptError}
+use Rattle.cv_script.specs.declared.reader.error.ScriptError.TheVariants as script
 use Rattle.cv_parse_notation.specs.Spells.{next_is}
-use Rattle.cv_script_reader.specs.Scripts.{begins_step, items, read_row, script_read, stop_at, trees_of}
+use Rattle.cv_script.specs.reader.Scripts.{begins_step, items, read_row, script_read, stop_at, trees_of}
 use Rattle.cv_syntax.specs.limits.Limits.{nodes_of}
-use Rattle.cv_script_reader.specs.Scripts as scripts
-use Rattle.cv_script_reader.specs.Trees.{in_room, of_whole, tree_read, whole}
-use Rattle.cv_script_reader.proofs.Steps.{read_in_room}
+use Rattle.cv_script.specs.reader.Scripts as scripts
+use Rattle.cv_script.specs.reader.Trees.{in_room, of_whole, tree_read, whole}
+use Rattle.cv_script.proofs.reader.Steps.{read_in_room}
 use Rattle.cv_script.specs.declared.steps.Step.{Step}
 use Rattle.cv_script.specs.rows.Rows.{built_script_row}
 use Rattle.cv_accept.specs.declared.error.FileError.{FileError}

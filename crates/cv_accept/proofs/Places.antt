@@ -2,8 +2,8 @@
 use Rattle.std.proofs.Common.{◌≡◌, ℕ, ◌+◌, ◌<◌, ◌≤◌, List, [], ◌∷◌, Option, Some, None, flat_map, refl, ap, arith}
 use Rattle.cv_syntax_trees.specs.Declarations.{Declaration}
 use Rattle.cv_syntax_trees.specs.Tree.{Tree, size}
-use Rattle.cv_typing_rules.specs.Parts.{declaration_parts, file_parts, game_part}
-use Rattle.cv_typing_rules.specs.Refusals.{parts_size}
+use Rattle.cv_scope_rules.specs.typing.Parts.{declaration_parts, file_parts, game_part}
+use Rattle.cv_scope_rules.specs.typing.Refusals.{parts_size}
 use Rattle.cv_scope_rules.specs.declared.fault.Fault.{Fault}
 use Rattle.cv_scope_rules.specs.declared.fault.Fault.TheVariants as rules
 use Rattle.cv_scope_rules.specs.declared.fault.ScopeFault.{ScopeFault}

@@ -11,20 +11,20 @@ use Rattle.cv_syntax.specs.declared.work.BuildError.TheVariants as build
 use Rattle.cv_syntax_trees.specs.Tree.{Tree}
 use Rattle.cv_parse_tables.specs.terminals.Signs.{signs_of}
 use Rattle.cv_parse_tables.proofs.terminals.Telling.{count_all}
-use Rattle.cv_script_reader.specs.declared.error.ScriptError.{ScriptError}
-use Rattle.cv_script_reader.specs.Scripts.{items}
+use Rattle.cv_script.specs.declared.reader.error.ScriptError.{ScriptError}
+use Rattle.cv_script.specs.reader.Scripts.{items}
 use Rattle.cv_parse.specs.Nodes.{file_nodes}
 use Rattle.cv_parse.specs.declared.error.ParseError.{ParseError}
 use Rattle.cv_parse.specs.declared.error.ParseError.TheVariants as parse
 use Rattle.cv_parse.specs.Parsed.{Parsed, parsed, range_of}
 use Rattle.cv_parse.specs.Parsed as parsing
 use Rattle.cv_parse.proofs.Exactness.{said_is_saying, says_is_said}
-use Rattle.cv_typing_rules.specs.declared.fault.Fault.{Fault}
-use Rattle.cv_typing_rules.specs.declared.fault.TypeFault.{TypeFault}
-use Rattle.cv_typing_rules.specs.declared.fault.TypeFault.TheVariants as type
-use Rattle.cv_typing_rules.specs.Parts.{file_parts}
-use Rattle.cv_typing_rules.specs.Refusals.{IsRefusalOf}
-use Rattle.cv_typing_rules.proofs.First.{none_where_parts_typed, parts_typed_where_none}
+use Rattle.cv_scope_rules.specs.declared.typing.fault.Fault.{Fault}
+use Rattle.cv_scope_rules.specs.declared.typing.fault.TypeFault.{TypeFault}
+use Rattle.cv_scope_rules.specs.declared.typing.fault.TypeFault.TheVariants as type
+use Rattle.cv_scope_rules.specs.typing.Parts.{file_parts}
+use Rattle.cv_scope_rules.specs.typing.Refusals.{IsRefusalOf}
+use Rattle.cv_scope_rules.proofs.typing.First.{none_where_parts_typed, parts_typed_where_none}
 use Rattle.cv_scope_rules.specs.declared.fault.Fault.{Fault as ScopeRules}
 use Rattle.cv_scope_rules.specs.declared.fault.ScopeFault.{ScopeFault}
 use Rattle.cv_scope_rules.specs.declared.fault.ScopeFault.TheVariants as scope
@@ -35,9 +35,9 @@ use Rattle.cv_scope_rules.proofs.First.{none_where_scoped, scoped_where_none}
 use Rattle.cv_group.specs.declared.fault.GroupFault.{GroupFault}
 use Rattle.cv_group.specs.declared.fault.GroupFault.TheVariants as group
 use Rattle.cv_group.specs.Refusals.{IsRefusalAt}
-use Rattle.cv_group_rules.specs.Symbols.{symbols_of}
-use Rattle.cv_group_rules.specs.Faults.{GroupRule, equivalences_in}
-use Rattle.cv_group_rules.proofs.Deciding.{accepted_more as all-accepted, none_where_all as none-refused}
+use Rattle.cv_group.specs.rules.Symbols.{symbols_of}
+use Rattle.cv_group.specs.rules.Faults.{GroupRule, equivalences_in}
+use Rattle.cv_group.proofs.rules.Deciding.{accepted_more as all-accepted, none_where_all as none-refused}
 use Rattle.cv_query_form.specs.declared.fault.QueryFault.{QueryFault}
 use Rattle.cv_query_form.specs.declared.fault.QueryFault.TheVariants as query
 use Rattle.cv_meaning.specs.Queries.{queries_in}

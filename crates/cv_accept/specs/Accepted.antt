@@ -8,11 +8,11 @@ use Rattle.cv_parse_notation.specs.declared.sign.Mark.TheVariants as mark
 use Rattle.cv_parse_tables.specs.terminals.ScriptSigns.{between, script_signs}
 use Rattle.cv_parse_tables.specs.terminals.Signs.{signs_of}
 use Rattle.cv_parse_tables.specs.spelling.Spelling.{mark_of_text}
-use Rattle.cv_script_reader.specs.declared.error.ScriptError.{ScriptError}
-use Rattle.cv_script_reader.specs.declared.error.ScriptError.TheVariants as script
-use Rattle.cv_script_reader.specs.Scripts.{items}
+use Rattle.cv_script.specs.declared.reader.error.ScriptError.{ScriptError}
+use Rattle.cv_script.specs.declared.reader.error.ScriptError.TheVariants as script
+use Rattle.cv_script.specs.reader.Scripts.{items}
 use Rattle.cv_syntax.specs.limits.Limits.{nodes_of}
-use Rattle.cv_script_reader.specs.Trees.{tree_read}
+use Rattle.cv_script.specs.reader.Trees.{tree_read}
 use Rattle.cv_script.specs.rows.Rows.{built_script_row}
 use Rattle.cv_syntax_trees.specs.Declarations.{Declaration}
 use Rattle.cv_syntax_trees.specs.Tree.{Tree}
@@ -20,16 +20,16 @@ use Rattle.cv_parse.specs.declared.error.ParseError.{ParseError}
 use Rattle.cv_parse.specs.Nodes.{file_nodes}
 use Rattle.cv_parse.specs.Parsed.{Parsed, parsed}
 use Rattle.cv_parse.specs.Says.{Says}
-use Rattle.cv_typing_rules.specs.declared.fault.Fault.{Fault}
-use Rattle.cv_typing_rules.specs.Parts.{IsTypedFile, file_parts, first_in}
-use Rattle.cv_typing_rules.specs.Refusals.{refusal}
+use Rattle.cv_scope_rules.specs.declared.typing.fault.Fault.{Fault}
+use Rattle.cv_scope_rules.specs.typing.Parts.{IsTypedFile, file_parts, first_in}
+use Rattle.cv_scope_rules.specs.typing.Refusals.{refusal}
 use Rattle.cv_scope_rules.specs.declared.fault.Fault.{Fault as ScopeRules}
 use Rattle.cv_scope_rules.specs.Refusals.{refusal as scope_refusal}
 use Rattle.cv_scope_rules.specs.Scope.{IsScoped, first_scope_fault}
 use Rattle.cv_group.specs.Refusals.{refused_by}
-use Rattle.cv_group_rules.specs.Symbols.{symbols_of}
-use Rattle.cv_group_rules.specs.Faults.{AreAccepted, GroupRule, equivalences_in, first_group_fault}
-use Rattle.cv_query_kinds.specs.Built.{has_unbuilt}
+use Rattle.cv_group.specs.rules.Symbols.{symbols_of}
+use Rattle.cv_group.specs.rules.Faults.{AreAccepted, GroupRule, equivalences_in, first_group_fault}
+use Rattle.cv_query.specs.kinds.Built.{has_unbuilt}
 use Rattle.cv_meaning.specs.Queries.{queries_in}
 use Rattle.cv_query_form.specs.Rules.{AreAsked}
 use Rattle.cv_query_form.specs.Tests.{first_refused}

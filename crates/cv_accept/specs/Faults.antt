@@ -8,15 +8,15 @@ use Rattle.cv_lex.specs.Lexis.{Token}
 use Rattle.cv_lex.specs.declared.LexError.{LexError}
 use Rattle.cv_lex.specs.declared.LexError.TheVariants as lex
 use Rattle.cv_syntax.specs.declared.work.BuildError.TheVariants as build
-use Rattle.cv_script_reader.specs.declared.error.ScriptError.{ScriptError}
-use Rattle.cv_script_reader.specs.declared.error.ScriptError.TheVariants as script
-use Rattle.cv_script_reader.specs.Scripts.{items}
+use Rattle.cv_script.specs.declared.reader.error.ScriptError.{ScriptError}
+use Rattle.cv_script.specs.declared.reader.error.ScriptError.TheVariants as script
+use Rattle.cv_script.specs.reader.Scripts.{items}
 use Rattle.cv_syntax.specs.limits.Limits.{nodes_of}
 use Rattle.cv_script.specs.declared.steps.Step.{Step}
 use Rattle.cv_parse.specs.declared.error.ParseError.{ParseError}
 use Rattle.cv_parse.specs.declared.error.ParseError.TheVariants as parse
-use Rattle.cv_typing_rules.specs.declared.fault.TypeFault.{TypeFault}
-use Rattle.cv_typing_rules.specs.declared.fault.TypeFault.TheVariants as type
+use Rattle.cv_scope_rules.specs.declared.typing.fault.TypeFault.{TypeFault}
+use Rattle.cv_scope_rules.specs.declared.typing.fault.TypeFault.TheVariants as type
 use Rattle.cv_scope_rules.specs.declared.fault.ScopeFault.{ScopeFault}
 use Rattle.cv_scope_rules.specs.declared.fault.ScopeFault.TheVariants as scope
 use Rattle.cv_group.specs.declared.fault.GroupFault.{GroupFault}

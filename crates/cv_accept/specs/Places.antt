@@ -1,8 +1,8 @@
 -- Places in the preorder of a file: the terms of its declarations stand before its process.
 use Rattle.std.specs.Prelude.{ℕ, ◌+◌, ◌<◌, List, Option, Some, None, flat_map}
 use Rattle.cv_syntax_trees.specs.Declarations.{Declaration}
-use Rattle.cv_typing_rules.specs.Parts.{declaration_parts}
-use Rattle.cv_typing_rules.specs.Refusals.{parts_size}
+use Rattle.cv_scope_rules.specs.typing.Parts.{declaration_parts}
+use Rattle.cv_scope_rules.specs.typing.Refusals.{parts_size}
 use Rattle.cv_scope_rules.specs.declared.fault.Fault.{Fault}
 use Rattle.cv_scope_rules.specs.declared.fault.ScopeFault.{ScopeFault}
 use Rattle.cv_scope_rules.specs.declared.fault.ScopeFault.TheVariants.{Unscoped, TwoSites, Channel, Replications, OutOfMemory}

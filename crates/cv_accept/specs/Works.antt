@@ -11,10 +11,10 @@ use Rattle.cv_syntax_trees.specs.Tree.{Tree, depth, size}
 use Rattle.cv_syntax.specs.PoolTrees.{tree_at}
 use Rattle.cv_parse.specs.Nodes.{file_nodes}
 use Rattle.cv_syntax.specs.limits.Limits.{most_depth, most_nodes, nodes_of}
-use Rattle.cv_script_reader.specs.Scripts.{trees_of}
-use Rattle.cv_script_reader.specs.Trees.{script_nodes}
+use Rattle.cv_script.specs.reader.Scripts.{trees_of}
+use Rattle.cv_script.specs.reader.Trees.{script_nodes}
 use Rattle.cv_script.specs.declared.steps.Step.{Step}
-use Rattle.cv_typing_rules.specs.Parts.{IsTypedFile}
+use Rattle.cv_scope_rules.specs.typing.Parts.{IsTypedFile}
 use Rattle.cv_scope_rules.specs.Phrases.{IsWellFormed}
 use Rattle.cv_meaning.specs.Queries.{queries_in}
 use Rattle.cv_query_form.specs.Rules.{AreAsked}

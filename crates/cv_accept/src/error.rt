@@ -3,9 +3,9 @@ use cv_lex::LexError;
 use cv_parse::ParseError;
 use cv_query_form::QueryFault;
 use cv_scope_rules::ScopeFault;
-use cv_script_reader::ScriptError;
+use cv_scope_rules::typing::TypeFault;
+use cv_script::reader::ScriptError;
 use cv_syntax::BuildError;
-use cv_typing_rules::TypeFault;
 use std::alloc::AllocError;
 
 /// Why bytes aren't taken as a file.

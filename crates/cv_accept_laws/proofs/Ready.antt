@@ -28,16 +28,16 @@ use Rattle.cv_meaning.specs.Queries.{queries_in}
 use Rattle.cv_meaning.specs.Runs.{Adversary, Events}
 use Rattle.cv_meaning.specs.Satisfies.{Satisfies}
 use Rattle.cv_meaning_chances.specs.Fractions.{HasTapes}
-use Rattle.cv_meaning_contexts.specs.ContextAdvantage.{context_advantage}
+use Rattle.cv_meaning.specs.contexts.ContextAdvantage.{context_advantage}
 use Rattle.cv_meaning_chances.specs.values.Values.{HasValuesIn}
-use Rattle.cv_group_rules.specs.Symbols.{symbols_of}
-use Rattle.cv_group_rules.specs.Faults.{IsAccepted, OneIndex, equivalences_in}
-use Rattle.cv_group_rules.specs.Rules.{branches_have_one_index}
+use Rattle.cv_group.specs.rules.Symbols.{symbols_of}
+use Rattle.cv_group.specs.rules.Faults.{IsAccepted, OneIndex, equivalences_in}
+use Rattle.cv_group.specs.rules.Rules.{branches_have_one_index}
 use Rattle.cv_scope_rules.specs.Scope.{IsScoped}
-use Rattle.cv_typing_rules.specs.declared.form.Form.TheVariants.{InProcess}
-use Rattle.cv_typing_rules.specs.Parts.{IsTypedFile, declaration_parts, game_part, nothing_above}
-use Rattle.cv_typing_rules.specs.Signature.{declaration_of}
-use Rattle.cv_typing_rules.specs.Wants.{Run}
+use Rattle.cv_scope_rules.specs.declared.typing.form.Form.TheVariants.{InProcess}
+use Rattle.cv_scope_rules.specs.typing.Parts.{IsTypedFile, declaration_parts, game_part, nothing_above}
+use Rattle.cv_scope_rules.specs.typing.Signature.{declaration_of}
+use Rattle.cv_scope_rules.specs.typing.Wants.{Run}
 use Rattle.cv_typing_runs.specs.Games.{HasConstants}
 use Rattle.cv_typing_runs.proofs.Games.{known}
 use Rattle.cv_scene.specs.Reductions.{context_of_game}
@@ -55,14 +55,14 @@ use Rattle.cv_inline_names_laws.specs.cells.Layout.{IsRightFunction}
 use Rattle.cv_context_files.specs.right_forms.Forms.{HasRightForm}
 use Rattle.cv_context_files.proofs.right_forms.Files.{right_forms}
 use Rattle.cv_context_files.proofs.right_forms.TypedFiles.{right}
-use Rattle.cv_meaning_contexts.specs.Groups.{Right, side_group}
+use Rattle.cv_meaning.specs.contexts.Groups.{Right, side_group}
 use Rattle.cv_accept.specs.Accepted.{most_pool}
 use Rattle.cv_scene.specs.Scenes.{KnowsQueries}
 use Rattle.cv_sequences.specs.Chains.{IsEquivalenceOfFile, IsFileOf}
 use Rattle.cv_sequences.proofs.Asked.{choices_valued}
 use Rattle.cv_sequences.proofs.Choices.{game_valued}
-use Rattle.cv_steps_crypto.specs.Conditions.{equivalence_by}
-use Rattle.cv_steps_crypto.specs.Steps.{first_answer, reduction_of}
+use Rattle.cv_steps_laws.specs.crypto.Conditions.{equivalence_by}
+use Rattle.cv_steps_laws.specs.crypto.Steps.{first_answer, reduction_of}
 use Rattle.cv_accept.specs.Accepted.{most_bytes}
 use Rattle.cv_lists.proofs.Options.{some_injective}
 

@@ -17,3 +17,5 @@ pub fn accepted_files_begin_sequences()
         → ((ds : List Declaration) → DerivedBodiesAreUnreached ds)
         → IsFileOf c.declarations c.own c.game }
 {}
+
+pub mod kernel;

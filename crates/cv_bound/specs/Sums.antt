@@ -3,7 +3,7 @@
 use Rattle.std.specs.Prelude.{ℕ, ◌+◌, ◌<◌, ◌^◌, Bool, true, false, ◌&&◌, ◌==◌, if◌then◌else◌, List, [], ◌∷◌, ◌++◌, Option, Some, None}
 use Rattle.std.specs.List.{AllByRecursion, flat_map}
 use Rattle.std.specs.Bool.{beq}
-use Rattle.cv_names.specs.declared.names.NameId.{NameId}
+use Rattle.cv_pool.specs.declared.names.names.NameId.{NameId}
 use Rattle.cv_bound.specs.declared.cost.Collision.{Collision}
 use Rattle.cv_bound.specs.declared.cost.Cost.{Cost}
 use Rattle.cv_bound.specs.declared.cost.Cost.TheVariants as cost

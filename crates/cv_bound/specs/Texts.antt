@@ -2,7 +2,7 @@
 use Rattle.std.specs.Prelude.{ℕ, Bool, true, false, ◌==◌, if◌then◌else◌, List, [], ◌∷◌, ◌++◌, codes}
 use Rattle.std.specs.List.{flat_map}
 use Rattle.std.specs.Fmt.{decimal}
-use Rattle.cv_names.specs.declared.names.NameId.{NameId}
+use Rattle.cv_pool.specs.declared.names.names.NameId.{NameId}
 use Rattle.cv_print.specs.Terms.{name_text}
 use Rattle.cv_bound.specs.declared.cost.Collision.{Collision}
 use Rattle.cv_bound.specs.declared.cost.Cost.{Cost}

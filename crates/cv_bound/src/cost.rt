@@ -13,7 +13,7 @@ pub struct Factors {
 
 impl Model for Factors {
     ghost use Rattle.std.specs.Prelude.{List, ℕ, length, ◌<◌, ◌^◌};
-    ghost use Rattle.cv_names.specs.declared.names.NameId.{NameId};
+    ghost use Rattle.cv_pool.specs.declared.names.names.NameId.{NameId};
 
     ghost Value = { List (NameId × ℕ) };
 

@@ -7,8 +7,8 @@ ghost use Rattle.cv_directory_sorts.specs.declared.sort.Sort.TheVariants.{OfType
 ghost use Rattle.cv_directory_sorts.specs.Sites.{sites_of};
 ghost use Rattle.cv_scope_rules.specs.Phrases.{Inputs, IsWellFormed, is_phrase};
 ghost use Rattle.cv_scope_rules.specs.Scope.{is_variable};
-ghost use Rattle.cv_typing_rules.specs.Parts.{IsTypedGame};
-ghost use Rattle.cv_typing_rules.specs.Signature.{OfGame, variable_sort};
+ghost use Rattle.cv_scope_rules.specs.typing.Parts.{IsTypedGame};
+ghost use Rattle.cv_scope_rules.specs.typing.Signature.{OfGame, variable_sort};
 ghost use Rattle.cv_typing_runs.specs.Games.{HasKnownNames};
 ghost use Rattle.cv_scene.specs.Refusals.{new_of};
 ghost use Rattle.cv_context.specs.indices.Indices.{indices_are_new, indices_use_none};

@@ -10,11 +10,11 @@ ghost use Rattle.cv_meaning.specs.Satisfies.{Satisfies};
 ghost use Rattle.cv_meaning.specs.Side.{CallNumber};
 ghost use Rattle.cv_meaning_chances.specs.Fractions.{HasTapes};
 ghost use Rattle.cv_meaning_chances.specs.Tests.{HasValues};
-ghost use Rattle.cv_meaning_contexts.specs.ContextAdvantage.{context_advantage, context_chance};
-ghost use Rattle.cv_meaning_contexts.specs.Groups.{Which};
-ghost use Rattle.cv_meaning_contexts.specs.Sides.{Context, side_of};
+ghost use Rattle.cv_meaning.specs.contexts.ContextAdvantage.{context_advantage, context_chance};
+ghost use Rattle.cv_meaning.specs.contexts.Groups.{Which};
+ghost use Rattle.cv_meaning.specs.contexts.Sides.{Context, side_of};
 ghost use Rattle.cv_meaning_chances.specs.values.Values.{HasValuesIn};
-ghost use Rattle.cv_typing_rules.specs.Parts.{IsTypedFile};
+ghost use Rattle.cv_scope_rules.specs.typing.Parts.{IsTypedFile};
 ghost use Rattle.cv_scene.specs.Reductions.{Reduction, context_of_game, in_game};
 ghost use Rattle.cv_context_files.specs.tapes.Declared.{BodiesChooseFromDeclaredTypes, HasDeclaredTypes};
 

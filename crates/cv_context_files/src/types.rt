@@ -8,11 +8,11 @@ ghost use Rattle.cv_meaning.specs.Interpretation.{Interpretation};
 ghost use Rattle.cv_meaning.specs.Runs.{Adversary};
 ghost use Rattle.cv_meaning.specs.Satisfies.{Satisfies};
 ghost use Rattle.cv_meaning_chances.specs.Fractions.{HasTapes};
-ghost use Rattle.cv_meaning_contexts.specs.ContextAdvantage.{context_advantage};
+ghost use Rattle.cv_meaning.specs.contexts.ContextAdvantage.{context_advantage};
 ghost use Rattle.cv_meaning_chances.specs.values.Values.{HasValuesIn};
 ghost use Rattle.cv_parse_notation.specs.declared.sign.Sign.{Sign};
 ghost use Rattle.cv_parse.specs.Parsed.{Parsed, parsed};
-ghost use Rattle.cv_typing_rules.specs.Parts.{IsTypedFile};
+ghost use Rattle.cv_scope_rules.specs.typing.Parts.{IsTypedFile};
 ghost use Rattle.cv_scene.specs.Reductions.{Reduction, context_of_game, in_game};
 ghost use Rattle.cv_context_files.specs.tapes.Declared.{HasDeclaredTypes};
 

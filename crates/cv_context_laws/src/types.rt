@@ -3,13 +3,13 @@
 ghost use Rattle.std.specs.Prelude.{◌≡◌, ℕ, Bool, false, true};
 ghost use Rattle.std.specs.List.{AllByRecursion};
 ghost use Rattle.cv_syntax_trees.specs.Tree.{second};
-ghost use Rattle.cv_meaning_contexts.specs.Sides.{Context};
-ghost use Rattle.cv_typing_rules.specs.Parts.{IsTypedGame};
+ghost use Rattle.cv_meaning.specs.contexts.Sides.{Context};
+ghost use Rattle.cv_scope_rules.specs.typing.Parts.{IsTypedGame};
 ghost use Rattle.cv_scope_rules.specs.Phrases.{binds_none};
 ghost use Rattle.cv_scene.specs.Apt.{IsAptGame};
 ghost use Rattle.cv_scene.specs.LeftTerms.{HasLeftTerms};
 ghost use Rattle.cv_scene.specs.Reductions.{Reduction, context_of_game, matching};
-ghost use Rattle.cv_meaning_contexts.specs.Inlined.{is_own};
+ghost use Rattle.cv_meaning.specs.contexts.Inlined.{is_own};
 ghost use Rattle.cv_inline.specs.NextGame.{Calling, callings_of};
 ghost use Rattle.cv_inline_laws.specs.runs.Texts.{Text};
 ghost use Rattle.cv_inline_names_laws.specs.cells.Layout.{IsContextText};

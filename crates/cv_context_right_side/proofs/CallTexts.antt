@@ -6,11 +6,11 @@ use Rattle.cv_syntax_trees.specs.Tree.{Tree, Empty, Node, chain, first, second}
 use Rattle.cv_meaning.specs.Memory.{Indices}
 use Rattle.cv_meaning.specs.Tapes.{Tape, blank}
 use Rattle.cv_meaning_laws.proofs.Listed.{Has}
-use Rattle.cv_meaning_contexts.specs.Groups.{Group, Left, Right, function_at, functions_of, side_group}
-use Rattle.cv_meaning_contexts.specs.Sides.{Context}
-use Rattle.cv_group_rules.specs.Symbols.{symbols_of}
-use Rattle.cv_group_rules.specs.Faults.{SameShape}
-use Rattle.cv_group_rules.specs.Rules.{all_agree, functions_in, groups_agree, same_bound}
+use Rattle.cv_meaning.specs.contexts.Groups.{Group, Left, Right, function_at, functions_of, side_group}
+use Rattle.cv_meaning.specs.contexts.Sides.{Context}
+use Rattle.cv_group.specs.rules.Symbols.{symbols_of}
+use Rattle.cv_group.specs.rules.Faults.{SameShape}
+use Rattle.cv_group.specs.rules.Rules.{all_agree, functions_in, groups_agree, same_bound}
 use Rattle.cv_scope_rules.specs.Phrases.{Inputs, is_oracle_phrase}
 use Rattle.cv_scene.specs.Contexts.{call_terms}
 use Rattle.cv_scene.specs.Reductions.{Reduction, context_of_game, sites}
@@ -20,12 +20,12 @@ use Rattle.cv_context_laws.proofs.shape.Games.{context_part}
 use Rattle.cv_context_laws.specs.calls.Calls.{AreCallsOf, IsCallOf}
 use Rattle.cv_context_laws.proofs.calls.Found.{found, site_found}
 use Rattle.cv_context_laws.proofs.calls.Games.{game_calls}
-use Rattle.cv_meaning_contexts.specs.KeyTerms.{AreFineKeyTerms}
-use Rattle.cv_meaning_contexts.specs.Inlined.{Caller, is_index_of, is_own}
-use Rattle.cv_meaning_contexts.specs.Roles.{Replication, is_plain}
+use Rattle.cv_meaning.specs.contexts.KeyTerms.{AreFineKeyTerms}
+use Rattle.cv_meaning.specs.contexts.Inlined.{Caller, is_index_of, is_own}
+use Rattle.cv_meaning.specs.contexts.Roles.{Replication, is_plain}
 use Rattle.cv_inline.specs.NextGame.{Calling, call_of, callers_of, callings_of, numbered}
-use Rattle.cv_inline_draws_laws.specs.DrawnNames.{find_in, has_indices}
-use Rattle.cv_inline_draws_laws.proofs.Names.{label_again}
+use Rattle.cv_inline_laws.specs.draws.DrawnNames.{find_in, has_indices}
+use Rattle.cv_inline_laws.proofs.draws.Names.{label_again}
 use Rattle.cv_inline_laws.specs.runs.Texts.{IsHere, Text, inlining_at, oracles_in, plain_in}
 use Rattle.cv_context_runs.specs.visits.CallTexts.{HasCallTexts, IsAnswered, IsCallText, IsKeyRead}
 use Rattle.cv_inline_names_laws.proofs.accepted.Functions.{accepted_fine}

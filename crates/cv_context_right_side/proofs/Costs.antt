@@ -6,7 +6,7 @@ use Rattle.cv_meaning.specs.Experiments.{Experiment, mode_of}
 use Rattle.cv_meaning.specs.Interpretation.{Interpretation, setting_of}
 use Rattle.cv_meaning.specs.Runs.{Adversary}
 use Rattle.cv_meaning.specs.Tapes.{blank}
-use Rattle.cv_meaning_contexts.specs.ContextAdvantage.{context_advantage}
+use Rattle.cv_meaning.specs.contexts.ContextAdvantage.{context_advantage}
 use Rattle.cv_meaning_chances.proofs.FractionLaws.{distance_kept}
 use Rattle.cv_meaning.specs.Queries.{queries_in}
 use Rattle.cv_typing_runs.specs.Games.{HasArguments}
@@ -15,7 +15,7 @@ use Rattle.cv_context_left_side.specs.refusals.Reducible.{IsReducible}
 use Rattle.cv_context_left_side.proofs.refusals.Whole.{apt_game, apt_test}
 use Rattle.cv_context_left_side.proofs.cells.Chances as left
 use Rattle.cv_inline.specs.NextGame.{next_of}
-use Rattle.cv_inline_draws_laws.specs.DrawnNames.{drawn_in}
+use Rattle.cv_inline_laws.specs.draws.DrawnNames.{drawn_in}
 use Rattle.cv_inline_laws.specs.runs.Contexts.{IsAskedAlike}
 use Rattle.cv_inline_names_laws.specs.drawn.Named.{NamedContext, names_of, text_of}
 use Rattle.cv_context_right_side.specs.Right.{IsRightGame}

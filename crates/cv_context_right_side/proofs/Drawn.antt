@@ -4,7 +4,7 @@ use Rattle.std.proofs.lemmas.Bool.{and_parts, both_ways, not-true, false_from_ne
 use Rattle.std.proofs.lemmas.Bool.Decides.{nat_tests}
 use Rattle.std.specs.List.{AllByRecursion, list_any}
 use Rattle.cv_meaning.specs.Interpretation.{Interpretation, is_constant_of, setting_of}
-use Rattle.cv_meaning_contexts.specs.Groups.{Right, side_group}
+use Rattle.cv_meaning.specs.contexts.Groups.{Right, side_group}
 use Rattle.cv_scene.specs.Contexts.{AreAnswers}
 use Rattle.cv_scene.specs.Reductions.{Reduction, context_of_game, is_answer, is_coin, is_plain, sites}
 use Rattle.cv_scene.specs.Refusals.{new_of}
@@ -17,9 +17,9 @@ use Rattle.cv_context_right_side.specs.texts.SiteTexts.{indices_of, role_in_game
 use Rattle.cv_context_right_side.proofs.texts.Names.{index_named}
 use Rattle.cv_match_laws.specs.answers.Drawn.{AreDrawnFor, callings}
 use Rattle.cv_context_laws.proofs.next_games.Labels.{labels_apart, many_labels}
-use Rattle.cv_meaning_contexts.specs.Roles.{Gone, Plain, Replication, Role}
-use Rattle.cv_inline_draws_laws.specs.DrawnNames.{AreApart, DrawnNames, is_new, names_of_draws, role_in}
-use Rattle.cv_inline_draws_laws.proofs.Names.{other_role}
+use Rattle.cv_meaning.specs.contexts.Roles.{Gone, Plain, Replication, Role}
+use Rattle.cv_inline_laws.specs.draws.DrawnNames.{AreApart, DrawnNames, is_new, names_of_draws, role_in}
+use Rattle.cv_inline_laws.proofs.draws.Names.{other_role}
 use Rattle.cv_inline_names_laws.specs.drawn.Named.{NamedContext}
 
 -- what holds of each name of a list

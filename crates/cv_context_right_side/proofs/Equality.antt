@@ -6,13 +6,13 @@ use Rattle.cv_meaning.specs.Experiments.{Experiment, mode_of}
 use Rattle.cv_meaning.specs.Interpretation.{Interpretation, Setting, setting_of}
 use Rattle.cv_meaning.specs.Runs.{Adversary, Events, Mode, Random, Real}
 use Rattle.cv_meaning.specs.Tapes.{Tape, blank}
-use Rattle.cv_meaning_contexts.specs.ContextAdvantage.{context_chance}
-use Rattle.cv_meaning_contexts.specs.Groups.{Right}
-use Rattle.cv_meaning_contexts.specs.Sides.{Context}
+use Rattle.cv_meaning.specs.contexts.ContextAdvantage.{context_chance}
+use Rattle.cv_meaning.specs.contexts.Groups.{Right}
+use Rattle.cv_meaning.specs.contexts.Sides.{Context}
 use Rattle.cv_scene.specs.Reductions.{Reduction, context_of_game}
 use Rattle.cv_inline.specs.NextGame.{next_of}
-use Rattle.cv_inline_draws_laws.specs.DrawnNames.{drawn_in, find_in}
-use Rattle.cv_inline_draws_laws.proofs.Names.{other_label}
+use Rattle.cv_inline_laws.specs.draws.DrawnNames.{drawn_in, find_in}
+use Rattle.cv_inline_laws.proofs.draws.Names.{other_label}
 use Rattle.cv_inline_laws.specs.runs.Contexts.{IsAskedAlike, IsTextOf}
 use Rattle.cv_context_runs.specs.visits.CallTexts.{HasCallTexts}
 use Rattle.cv_context_runs.proofs.visits.FineGames.{context_fine}

@@ -8,11 +8,11 @@ use Rattle.cv_syntax_trees.specs.declared.head.Head.TheVariants.{Repl}
 use Rattle.cv_syntax_trees.specs.Tree.{Tree, Empty, Node, first}
 use Rattle.cv_meaning.specs.Cells.{bounds_under}
 use Rattle.cv_meaning_laws.proofs.Listed.{Has}
-use Rattle.cv_meaning_contexts.specs.Finds.{Oracles, has_bound}
-use Rattle.cv_meaning_contexts.specs.Groups.{Function, Group, function_at}
-use Rattle.cv_meaning_contexts.specs.Sites.{Site, bounds_above, is_call, site_with, sites_from}
-use Rattle.cv_meaning_contexts.specs.KeyTerms.{AreFineKeyTerms}
-use Rattle.cv_meaning_contexts.specs.Inlined.{Caller, is_index_of}
+use Rattle.cv_meaning.specs.contexts.Finds.{Oracles, has_bound}
+use Rattle.cv_meaning.specs.contexts.Groups.{Function, Group, function_at}
+use Rattle.cv_meaning.specs.contexts.Sites.{Site, bounds_above, is_call, site_with, sites_from}
+use Rattle.cv_meaning.specs.contexts.KeyTerms.{AreFineKeyTerms}
+use Rattle.cv_meaning.specs.contexts.Inlined.{Caller, is_index_of}
 use Rattle.cv_inline.specs.bodies.Inlining.{Inlining}
 use Rattle.cv_inline.specs.bodies.Related.{AreSitesOf}
 use Rattle.cv_inline.specs.NextGame.{Calling, call_of, callers_of, calling, callings_from, names_assigned, numbered, replications_under}

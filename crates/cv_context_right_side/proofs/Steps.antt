@@ -13,7 +13,7 @@ use Rattle.cv_meaning.specs.Runs.{Adversary, Events, Random, Real}
 use Rattle.cv_meaning.specs.Tapes.{blank}
 use Rattle.cv_meaning_laws.proofs.adequacy.Lists.{contains_has}
 use Rattle.cv_meaning_laws.proofs.Listed.{Has}
-use Rattle.cv_meaning_contexts.specs.ContextAdvantage.{context_advantage}
+use Rattle.cv_meaning.specs.contexts.ContextAdvantage.{context_advantage}
 use Rattle.cv_directory_sorts.specs.declared.sort.Sort.{Sort}
 use Rattle.cv_directory_sorts.specs.declared.sort.Sort.TheVariants.{OfType}
 use Rattle.cv_directory_sorts.specs.Sites.{Variable, first_site}
@@ -43,7 +43,7 @@ use Rattle.cv_context_laws.proofs.types.Own.{no_own}
 use Rattle.cv_context_laws.proofs.types.Whole.{context_laid}
 use Rattle.cv_match_laws.specs.answers.Drawn.{AreDrawnFor, next_game}
 use Rattle.cv_context_laws.proofs.next_games.Labels.{labels_new}
-use Rattle.cv_meaning_contexts.specs.Roles.{Gone, Plain}
+use Rattle.cv_meaning.specs.contexts.Roles.{Gone, Plain}
 use Rattle.cv_inline_laws.specs.runs.Contexts.{IsAskedAlike}
 use Rattle.cv_inline_laws.specs.runs.Texts.{Text}
 use Rattle.cv_context_runs.specs.visits.Fine.{HasRolesOf, has_free_indices}

@@ -5,9 +5,9 @@ use Rattle.cv_syntax_trees.specs.Declarations.{Declaration}
 use Rattle.cv_syntax_trees.specs.Tree.{Tree, second}
 use Rattle.cv_meaning.specs.Interpretation.{is_constant_of}
 use Rattle.cv_meaning.specs.Tapes.{blank}
-use Rattle.cv_meaning_contexts.specs.Groups.{Right, side_group}
-use Rattle.cv_group_rules.specs.Symbols.{symbols_of}
-use Rattle.cv_group_rules.specs.Faults.{IsAccepted}
+use Rattle.cv_meaning.specs.contexts.Groups.{Right, side_group}
+use Rattle.cv_group.specs.rules.Symbols.{symbols_of}
+use Rattle.cv_group.specs.rules.Faults.{IsAccepted}
 use Rattle.cv_scope_rules.specs.Phrases.{IsWellFormedContext, binds_none}
 use Rattle.cv_typing_runs.specs.Games.{HasArguments}
 use Rattle.cv_scene.specs.Apt.{IsAptGame, IsSiteApt}
@@ -19,10 +19,10 @@ use Rattle.cv_scene.specs.Sites.{Site}
 use Rattle.cv_scene.specs.Terms.{has_index}
 use Rattle.cv_match_laws.specs.answers.Answers.{KnowsConstants}
 use Rattle.cv_context_left_side.specs.refusals.Reducible.{IsReducible}
-use Rattle.cv_meaning_contexts.specs.Inlined.{is_own}
-use Rattle.cv_meaning_contexts.specs.Roles.{Gone}
+use Rattle.cv_meaning.specs.contexts.Inlined.{is_own}
+use Rattle.cv_meaning.specs.contexts.Roles.{Gone}
 use Rattle.cv_inline.specs.NextGame.{Calling, callings_of}
-use Rattle.cv_inline_draws_laws.specs.DrawnNames.{role_in}
+use Rattle.cv_inline_laws.specs.draws.DrawnNames.{role_in}
 use Rattle.cv_context_runs.specs.visits.Fine.{HasRolesOf, has_free_indices, has_label}
 use Rattle.cv_inline_names_laws.specs.accepted.RightBodies.{is_right_side}
 use Rattle.cv_inline_names_laws.specs.cells.Layout.{IsContextText, IsRightFunction}

@@ -6,7 +6,7 @@ ghost use Rattle.cv_meaning.specs.Chances.{AtMost, distance};
 ghost use Rattle.cv_meaning.specs.Experiments.{Breaks};
 ghost use Rattle.cv_meaning.specs.Interpretation.{Interpretation, setting_of};
 ghost use Rattle.cv_meaning.specs.Runs.{Adversary};
-ghost use Rattle.cv_meaning_contexts.specs.ContextAdvantage.{context_advantage};
+ghost use Rattle.cv_meaning.specs.contexts.ContextAdvantage.{context_advantage};
 ghost use Rattle.cv_scene.specs.Reductions.{context_of_game};
 ghost use Rattle.cv_inline_names_laws.specs.drawn.Named.{NamedContext};
 ghost use Rattle.cv_match_laws.specs.answers.Drawn.{AreDrawnFor, next_game};

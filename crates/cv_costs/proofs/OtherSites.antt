@@ -13,7 +13,7 @@ use Rattle.cv_syntax_trees.specs.Tree.{Tree, Empty, Node, first_place, second_pl
 use Rattle.cv_directory_sorts.specs.Sites.{first_of}
 use Rattle.cv_scope_rules.specs.Made.{made_by}
 use Rattle.cv_scope_rules.specs.Sites.{Variable}
-use Rattle.cv_typing_rules.specs.Signature.{declaration_of}
+use Rattle.cv_scope_rules.specs.typing.Signature.{declaration_of}
 use Rattle.cv_typing.proofs.Bridges.{declaration_same}
 use Rattle.cv_directory.specs.Definitions.{is_large}
 use Rattle.cv_costs.specs.Large.{chooses, first_other_site, is_large_by}

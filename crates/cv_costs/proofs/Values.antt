@@ -3,9 +3,9 @@ use Rattle.std.proofs.Common.{◌≡◌, ℕ, ◌+◌, ◌*◌, ◌^◌, Bool, t
 use Rattle.std.proofs.Math.Nat.{mul-one, mul_assoc, mul_left_comm, pow-succ', pow-zero}
 use Rattle.std.proofs.lemmas.Bool.{eqb-true}
 use Rattle.std.specs.Prelude.{◌==◌}
-use Rattle.cv_names.specs.declared.names.NameId.{NameId}
+use Rattle.cv_pool.specs.declared.names.names.NameId.{NameId}
 use Rattle.cv_meaning.specs.Interpretation.{Interpretation}
-use Rattle.cv_bound_values.specs.Values.{product_value}
+use Rattle.cv_steps.specs.values.Values.{product_value}
 use Rattle.cv_costs.specs.Factors.{factor, is_before, with_parameter}
 
 once : (v m : ℕ) → v ^ 1 * m ≡ v * m

@@ -1,7 +1,7 @@
 -- Products of parameters: each parameter stands once, with its exponent, in the order of the declarations. This profile's own.
 use Rattle.std.specs.Prelude.{ℕ, ◌+◌, Bool, true, false, ◌==◌, if◌then◌else◌, List, [], ◌∷◌}
 use Rattle.std.specs.List.{flat_map}
-use Rattle.cv_names.specs.declared.names.NameId.{NameId}
+use Rattle.cv_pool.specs.declared.names.names.NameId.{NameId}
 use Rattle.cv_syntax_trees.specs.declared.class.Class.TheVariants as class
 use Rattle.cv_syntax.specs.declared.decls.Decl.{Decl}
 use Rattle.cv_syntax.specs.declared.decls.Decl.TheVariants as decl

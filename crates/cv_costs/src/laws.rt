@@ -1,6 +1,6 @@
 ghost use Rattle.std.specs.Prelude.{◌≡◌, ℕ, ◌*◌, List, [], ◌∷◌};
 ghost use Rattle.cv_meaning.specs.Interpretation.{Interpretation};
-ghost use Rattle.cv_bound_values.specs.Values.{product_value};
+ghost use Rattle.cv_steps.specs.values.Values.{product_value};
 ghost use Rattle.cv_costs.specs.Factors.{factors_of};
 
 /// The factors of parameters have the value of their product, in whatever order the parameters are declared.

@@ -3,7 +3,10 @@
 
 mod large;
 mod laws;
+pub mod names;
 mod products;
+pub mod quiet;
+pub mod wording;
 
 pub use large::{are_increasing, first_other_site, is_large};
 pub use laws::factors_have_the_value;

@@ -13,9 +13,9 @@ use Rattle.cv_meaning.specs.Terms.{bit, is_one, value}
 use Rattle.cv_meaning_laws.specs.adequacy.Typed.{HasSort}
 use Rattle.cv_scope_rules.specs.Phrases.{IsWellFormed}
 use Rattle.cv_directory_sorts.specs.Sites.{first_of}
-use Rattle.cv_syntax_faults.proofs.First.{none_first}
-use Rattle.cv_typing_rules.specs.Signature as typing
-use Rattle.cv_typing_rules.specs.Signature.{sort_of}
+use Rattle.cv_syntax.proofs.faults.First.{none_first}
+use Rattle.cv_scope_rules.specs.typing.Signature as typing
+use Rattle.cv_scope_rules.specs.typing.Signature.{sort_of}
 use Rattle.cv_typing_runs.specs.Games.{HasArguments, sort_of_meaning}
 use Rattle.cv_scene.specs.Terms.{above_at, is_term_at, signature_in}
 use Rattle.cv_scene.specs.Derivations.{first_bad, first_bad_line, is_right_split, nothing_visible, unless, with_line}

@@ -9,7 +9,7 @@ use Rattle.cv_syntax_trees.specs.declared.head.Head.TheVariants.{Apply, And, Con
 use Rattle.cv_syntax_trees.specs.Declarations.{Declaration, Named, Equation, Equiv, Query}
 use Rattle.cv_syntax_trees.specs.Tree.{Tree, Empty, Node, names}
 use Rattle.cv_syntax_trees.proofs.Equality.{same_tree_exact}
-use Rattle.cv_syntax_faults.specs.Walk.{IsObeyed}
+use Rattle.cv_syntax.specs.faults.Walk.{IsObeyed}
 use Rattle.cv_meaning.specs.Interpretation.{Interpretation, Setting, setting_of}
 use Rattle.cv_meaning.specs.Memory.{Indices, Store}
 use Rattle.cv_meaning.specs.Satisfies.{DeclarationHolds, IsInjective, Satisfies}
@@ -19,10 +19,10 @@ use Rattle.cv_meaning_laws.specs.adequacy.Typed as meaning
 use Rattle.cv_meaning_laws.specs.adequacy.Typed.{HasSort, Scope, boolean}
 use Rattle.cv_scope_rules.specs.Context.{items}
 use Rattle.cv_scope_rules.specs.Phrases.{IsWellFormed, Nil, Term, Terms, is_phrase}
-use Rattle.cv_typing_rules.specs.Signature.{Above, Function, Signature, declaration_of, function_by, function_in, is_arity, names_in}
+use Rattle.cv_scope_rules.specs.typing.Signature.{Above, Function, Signature, declaration_of, function_by, function_in, is_arity, names_in}
 use Rattle.cv_directory_sorts.specs.Counting.{count}
-use Rattle.cv_typing_rules.specs.Typing.{IsTyped}
-use Rattle.cv_typing_rules.specs.Wants.{AnyTerm, Message, Messages, Want, wants, wants_arguments}
+use Rattle.cv_scope_rules.specs.typing.Typing.{IsTyped}
+use Rattle.cv_scope_rules.specs.typing.Wants.{AnyTerm, Message, Messages, Want, wants, wants_arguments}
 use Rattle.cv_typing_runs.specs.Games.{HasArguments, sort_of_meaning}
 use Rattle.cv_typing_runs.proofs.Known.{AreKnown}
 use Rattle.cv_typing_runs.proofs.Terms.{AllSorted, asked_sort, faultless, message_sort, sorted}

@@ -22,7 +22,7 @@ use Rattle.cv_scope_rules.specs.Context.{items}
 use Rattle.cv_scope_rules.specs.Phrases.{IsWellFormed, OneCell, Term, is_phrase}
 use Rattle.cv_directory_sorts.specs.declared.sort.Sort.{Sort}
 use Rattle.cv_directory_sorts.specs.declared.sort.Sort.TheVariants.{BelowParameter, OfType}
-use Rattle.cv_typing_rules.specs.Signature.{sort_of}
+use Rattle.cv_scope_rules.specs.typing.Signature.{sort_of}
 use Rattle.cv_directory_sorts.specs.Sorts.{same_sort}
 use Rattle.cv_scope_runs.specs.Promises.{AreIndicesOf}
 use Rattle.cv_typing_runs.specs.Games.{HasArguments, context_of, sort_of_meaning}

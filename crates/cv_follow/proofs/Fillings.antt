@@ -27,9 +27,9 @@ use Rattle.cv_report.specs.declared.report.Status.TheVariants as status
 use Rattle.cv_report.specs.declared.report.Verdict.{Verdict}
 use Rattle.cv_report.specs.declared.report.Which.{Which}
 use Rattle.cv_report.specs.verdicts.Verdicts.{ended_with, verdicts_by}
-use Rattle.cv_query_kinds.specs.Built.{asks_unbuilt, has_unbuilt, is_unbuilt_step}
+use Rattle.cv_query.specs.kinds.Built.{asks_unbuilt, has_unbuilt, is_unbuilt_step}
 use Rattle.cv_scene_view.specs.Kept.{scene_of}
-use Rattle.cv_script_reader.specs.Scripts.{trees_of}
+use Rattle.cv_script.specs.reader.Scripts.{trees_of}
 use Rattle.cv_script.specs.declared.steps.Step.{Step}
 use Rattle.cv_script.specs.Views.{StepItems, items_of_step, name_in, number_in, part_in, tree_in, ◌>>=◌}
 use Rattle.cv_steps.specs.Sequences.{scene}

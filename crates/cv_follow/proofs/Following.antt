@@ -16,7 +16,7 @@ use Rattle.cv_syntax_trees.specs.Tree.{Tree}
 use Rattle.cv_syntax.specs.limits.Limits.{told}
 use Rattle.cv_syntax.specs.PoolTrees.{tree_at}
 use Rattle.cv_parse.specs.Declaring.{IsBelow}
-use Rattle.cv_script_reader.specs.Scripts.{trees_of}
+use Rattle.cv_script.specs.reader.Scripts.{trees_of}
 use Rattle.cv_syntax.specs.declared.work.Work.{Work}
 use Rattle.cv_accept.proofs.Blocks.{declarations_grown, root_grown}
 use Rattle.cv_bound.specs.declared.cost.Cost.{Cost}
@@ -28,13 +28,13 @@ use Rattle.cv_bound.specs.closings.Queries.{first_unclosed, numbers_of, sum_in}
 use Rattle.cv_context.specs.products.Shapes.{Shape}
 use Rattle.cv_context.specs.products.ShapesInCode.{shape_in}
 use Rattle.cv_match_laws.specs.functions.Forms.{HasLeftForm}
-use Rattle.cv_group_rules.specs.Symbols.{symbols_of}
-use Rattle.cv_group_rules.specs.Faults.{IsAccepted}
-use Rattle.cv_typing_rules.specs.Signature.{declaration_of}
+use Rattle.cv_group.specs.rules.Symbols.{symbols_of}
+use Rattle.cv_group.specs.rules.Faults.{IsAccepted}
+use Rattle.cv_scope_rules.specs.typing.Signature.{declaration_of}
 use Rattle.cv_scene_view.specs.Kept.{scene_of}
-use Rattle.cv_steps_crypto.specs.Conditions.{equivalence_by}
-use Rattle.cv_steps_crypto.specs.Steps.{IsOutcome, Outcome}
-use Rattle.cv_steps_crypto.specs.Steps as outcome
+use Rattle.cv_steps_laws.specs.crypto.Conditions.{equivalence_by}
+use Rattle.cv_steps_laws.specs.crypto.Steps.{IsOutcome, Outcome}
+use Rattle.cv_steps_laws.specs.crypto.Steps as outcome
 use Rattle.cv_kernel_crypto.specs.Applied as crypto
 use Rattle.cv_kernel.specs.Closings.{Closing, closing_failure, closing_in, closing_of_items, judgement_by_closing, judgement_in, judgement_of_failure, is_of_secrecy}
 use Rattle.cv_kernel.specs.Proofs.{IsProof, IsTransition, Transition, closed_by, game_behind, nodes_along, push, shape_at, shape_by, start, sums_behind, sum_of}

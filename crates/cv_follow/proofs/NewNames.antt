@@ -4,8 +4,8 @@ use Rattle.std.proofs.lemmas.List.{length-map, map_more}
 use Rattle.cv_inline.specs.Draws.{drawn_texts, greatest_end}
 use Rattle.cv_inline_draws.specs.names.Texts.{text_at, texts_at, with_texts}
 use Rattle.cv_inline_draws.specs.taken_names.Taken.{taken_names}
-use Rattle.cv_inline_draws_laws.proofs.Texts.{as_many_texts}
-use Rattle.cv_names.specs.declared.names.NameId.{NameId}
+use Rattle.cv_inline_laws.proofs.draws.Texts.{as_many_texts}
+use Rattle.cv_pool.specs.declared.names.names.NameId.{NameId}
 use Rattle.cv_pool.specs.KindTree.{KindTree}
 use Rattle.cv_rule_array_names.specs.Sites.{listed_names}
 use Rattle.cv_script.specs.Views.{StepItems, items_of_step, adds_in, part_in, tree_in, ◌>>=◌}

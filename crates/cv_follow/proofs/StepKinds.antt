@@ -16,8 +16,8 @@ use Rattle.cv_steps.specs.Costs.{cost_of}
 use Rattle.cv_steps.specs.Judgements.{Judgement, judgement_of}
 use Rattle.cv_steps.specs.Judgements as judgement
 use Rattle.cv_steps.specs.Steps.{Cost}
-use Rattle.cv_steps_crypto.specs.Steps.{IsOutcome, Outcome}
-use Rattle.cv_steps_crypto.specs.Steps as outcome
+use Rattle.cv_steps_laws.specs.crypto.Steps.{IsOutcome, Outcome}
+use Rattle.cv_steps_laws.specs.crypto.Steps as outcome
 use Rattle.cv_kernel.specs.declared.error.PushError.{PushError}
 use Rattle.cv_kernel.specs.declared.sequence.Sequence.{Sequence}
 use Rattle.cv_kernel.specs.Closings.{Closing, closing_failure, closing_in, closing_of_items, judgement_by_closing, judgement_in, judgement_of_failure}

@@ -23,7 +23,7 @@ use Rattle.cv_parse.specs.Declaring.{IsBelow}
 use Rattle.cv_pool.proofs.Growth.{Grows_length, Grows_refl, Grows_trans}
 use Rattle.cv_pool.specs.KindTree.{KindTree}
 use Rattle.cv_pool.specs.PoolView.{PoolView, Grows}
-use Rattle.cv_query_kinds.specs.Built.{has_unbuilt, is_unbuilt_step}
+use Rattle.cv_query.specs.kinds.Built.{has_unbuilt, is_unbuilt_step}
 use Rattle.cv_report.specs.declared.report.Entry.{Entry}
 use Rattle.cv_report.specs.declared.report.Status.{Status}
 use Rattle.cv_report.specs.declared.report.Status.TheVariants as status

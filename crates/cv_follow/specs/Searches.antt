@@ -13,7 +13,7 @@ use Rattle.cv_meaning.specs.Queries.{queries_in}
 use Rattle.cv_parse.specs.Declaring.{IsBelow}
 use Rattle.cv_pool.specs.KindTree.{KindTree}
 use Rattle.cv_pool.specs.PoolView.{PoolView, Grows}
-use Rattle.cv_query_kinds.specs.Built.{has_unbuilt}
+use Rattle.cv_query.specs.kinds.Built.{has_unbuilt}
 use Rattle.cv_report.specs.declared.report.Cause.TheVariants.{Moves, Stuck}
 use Rattle.cv_report.specs.declared.report.Entry.{Entry}
 use Rattle.cv_report.specs.declared.report.Status.{Status}

@@ -21,7 +21,7 @@ use crate::naming::with_drawn;
 use crate::walk::{Walk, note};
 use cv_bound::closings::ClosedQueries;
 use cv_kernel::{PushError, Sequence};
-use cv_query_kinds::has_unbuilt;
+use cv_query::kinds::has_unbuilt;
 use cv_report::verdicts::verdicts_of;
 use cv_report::{Cause, Entry, Status, Which};
 use cv_script::Step;

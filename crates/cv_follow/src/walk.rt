@@ -6,7 +6,7 @@ ghost use Rattle.cv_syntax_trees.specs.Tree.{size};
 ghost use Rattle.cv_syntax.specs.PoolTrees.{tree_at};
 ghost use Rattle.cv_parse.specs.Declaring.{IsBelow};
 ghost use Rattle.cv_scope_rules.specs.Phrases.{IsWellFormed};
-ghost use Rattle.cv_script_reader.specs.Scripts.{trees_of};
+ghost use Rattle.cv_script.specs.reader.Scripts.{trees_of};
 ghost use Rattle.cv_accept.specs.Works.{HasSteps};
 ghost use Rattle.cv_accept.specs.Accepted.{most_pool};
 ghost use Rattle.cv_context.specs.products.ShapesInCode.{shape_in};

@@ -1,7 +1,7 @@
 -- Two reports on the same bytes: what they say along their trails, and of the queries.
 use Rattle.std.proofs.Common.{◌≡◌, ℕ, ◌≤◌, Bool, true, false, List, [], ◌∷◌, ◌++◌, append-nil, drop, length, map, take, Option, Some, None, refl, ap, ap₂, sym, ◌∙◌, subst, arith}
 use Rattle.std.proofs.lemmas.List.{length-map, take-append-drop, take-map, take_all}
-use Rattle.cv_names.specs.Texts.{NoRepeat}
+use Rattle.cv_pool.specs.names.Texts.{NoRepeat}
 use Rattle.cv_syntax.specs.declared.work.File.{File}
 use Rattle.cv_syntax_trees.specs.Tree.{Tree}
 use Rattle.cv_meaning.specs.Queries.{queries_in}

@@ -1,7 +1,7 @@
 -- No text stands twice among the names of a file, and bytes are one file at most.
 use Rattle.std.proofs.Common.{◌≡◌, ℕ, min, List, Option, Some, None, sym, subst}
 use Rattle.cv_lex.specs.Lexis.{Token}
-use Rattle.cv_names.specs.Texts.{NoRepeat}
+use Rattle.cv_pool.specs.names.Texts.{NoRepeat}
 use Rattle.cv_parse_tables.specs.terminals.ScriptSigns.{between}
 use Rattle.cv_parse_tables.specs.terminals.Signs.{no_counts, signs_of}
 use Rattle.cv_parse_tables.proofs.terminals.Telling.{grown, names_apart}

@@ -12,9 +12,9 @@ use Rattle.cv_scene.specs.Reductions.{Reduction, context_of_game}
 use Rattle.cv_scene.specs.Scenes.{Scene}
 use Rattle.cv_script.specs.Views.{StepItems}
 use Rattle.cv_script.specs.Views as items
-use Rattle.cv_steps_crypto.specs.Conditions.{Failure, equivalence_of, failure_of}
-use Rattle.cv_steps_crypto.specs.Steps.{IsNextGame, IsOutcome, IsOutcomeBy, Outcome, is_next, outcome_with, reduction_of}
-use Rattle.cv_steps_crypto.specs.Steps as outcome
+use Rattle.cv_steps_laws.specs.crypto.Conditions.{Failure, equivalence_of, failure_of}
+use Rattle.cv_steps_laws.specs.crypto.Steps.{IsNextGame, IsOutcome, IsOutcomeBy, Outcome, is_next, outcome_with, reduction_of}
+use Rattle.cv_steps_laws.specs.crypto.Steps as outcome
 use Rattle.cv_kernel.specs.Sayings.{Accepted, MaySay, Refused, Saying, TooDeep, TooLarge, saying_by}
 
 -- games that a step may lead to differ in names alone

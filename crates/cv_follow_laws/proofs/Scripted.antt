@@ -1,12 +1,12 @@
 -- Of a file with a proof block: two trails along its steps, of which one may be shorter.
 use Rattle.std.proofs.Common.{◌≡◌, ℕ, ◌≤◌, Bool, List, [], ◌∷◌, ◌++◌, length, map, take, drop, refl, ap, sym, ◌∙◌, subst, arith}
 use Rattle.std.proofs.lemmas.List.{length-map, map-append, take-append-drop, take-map, take_all}
-use Rattle.cv_names.specs.Texts.{NoRepeat}
+use Rattle.cv_pool.specs.names.Texts.{NoRepeat}
 use Rattle.cv_syntax_trees.specs.Tree.{Tree}
 use Rattle.cv_accept.specs.Accepted.{Content}
 use Rattle.cv_kernel.specs.Drawings.{DrawsAlong, told}
 use Rattle.cv_kernel.specs.Proofs.{IsProof, Transition}
-use Rattle.cv_kernel_laws.proofs.sequences.OneSequence.{alike}
+use Rattle.cv_accept_laws.proofs.kernel.sequences.OneSequence.{alike}
 use Rattle.cv_follow.specs.Scripts.{is_without_block, known_to}
 use Rattle.cv_follow_laws.proofs.Fronts.{drawn_front, proof_front, steps_front}
 

@@ -2,7 +2,7 @@
 #![tactic(auto)]
 
 ghost use Rattle.std.specs.Prelude.{◌≡◌, ◌≤◌, ℕ, Bool, List, length, map, take};
-ghost use Rattle.cv_names.specs.Texts.{NoRepeat};
+ghost use Rattle.cv_pool.specs.names.Texts.{NoRepeat};
 ghost use Rattle.cv_syntax.specs.declared.work.File.{File};
 ghost use Rattle.cv_syntax_trees.specs.Tree.{Tree};
 ghost use Rattle.cv_accept.specs.Accepted.{Content, IsFile};

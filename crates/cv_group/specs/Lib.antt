@@ -2,3 +2,4 @@ pub mod Tables
 pub mod Refusals
 pub mod shapes
 pub mod bodies
+pub mod rules

@@ -8,13 +8,13 @@ use Rattle.cv_syntax_trees.specs.Tree.{Tree, bound_names, first, second}
 use Rattle.cv_syntax.specs.PoolTrees.{tree_at}
 use Rattle.cv_syntax_trees.specs.Children.{is_empty}
 use Rattle.cv_pool.specs.KindTree.{KindTree}
-use Rattle.cv_meaning_contexts.specs.Groups.{bound_of}
+use Rattle.cv_meaning.specs.contexts.Groups.{bound_of}
 use Rattle.cv_group.specs.declared.symbols.Symbols as code
 use Rattle.cv_group.specs.shapes.Shapes.{sides_agree}
-use Rattle.cv_group_rules.specs.Rules as rule
-use Rattle.cv_group_rules.specs.Rules.{takes}
-use Rattle.cv_group_rules.specs.Symbols.{Symbols}
-use Rattle.cv_group_rules.specs.Faults.{GroupRule, LeftIsTerm, OneIndex, SameShape, BoundNames, ReadNames, or_else}
+use Rattle.cv_group.specs.rules.Rules as rule
+use Rattle.cv_group.specs.rules.Rules.{takes}
+use Rattle.cv_group.specs.rules.Symbols.{Symbols}
+use Rattle.cv_group.specs.rules.Faults.{GroupRule, LeftIsTerm, OneIndex, SameShape, BoundNames, ReadNames, or_else}
 use Rattle.cv_pool.specs.declared.node.NodeId.{NodeId}
 
 -- the name of a constant's declaration

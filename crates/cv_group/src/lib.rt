@@ -6,6 +6,7 @@ mod checking;
 mod fault;
 mod names;
 mod reads;
+pub mod rules;
 pub mod shapes;
 mod sides;
 mod symbols;

@@ -3,7 +3,7 @@ use Rattle.std.proofs.Common.{◌≡◌, ℕ, Bool, true, false, cond, ◌||◌,
 use Rattle.std.proofs.lemmas.Bool.{both_ways, and_parts}
 use Rattle.std.proofs.lemmas.Map.Keys.{IsDistinct-head, IsDistinct-tail}
 use Rattle.std.specs.List.{AllByRecursion, IsDistinct}
-use Rattle.cv_meaning_contexts.specs.Roles.{Role, TheKeyName, Variable, Index}
+use Rattle.cv_meaning.specs.contexts.Roles.{Role, TheKeyName, Variable, Index}
 use Rattle.cv_inline.specs.Draws.{same_role, same_find, name_for, drawn_for, is_drawn}
 
 module _ {A : Type 0} (same : A → A → Bool) (exact : (r s : A) → same r s ≡ true → r ≡ s) where

@@ -5,10 +5,10 @@ use Rattle.std.specs.Fmt.{decimal}
 use Rattle.cv_lex.specs.Lexis.{value_of}
 use Rattle.cv_syntax_trees.specs.declared.head.Head.TheVariants.{New, Let, If, Find, Branch, Cons, Binder}
 use Rattle.cv_syntax_trees.specs.Tree.{Tree, Empty, Node, first_place, second_place}
-use Rattle.cv_meaning_contexts.specs.Groups.{Group}
-use Rattle.cv_meaning_contexts.specs.Bodies.{body_place}
-use Rattle.cv_meaning_contexts.specs.Roles.{Role, TheKeyName, Variable, Index}
-use Rattle.cv_meaning_contexts.specs.Inlined.{Drawn, Caller}
+use Rattle.cv_meaning.specs.contexts.Groups.{Group}
+use Rattle.cv_meaning.specs.contexts.Bodies.{body_place}
+use Rattle.cv_meaning.specs.contexts.Roles.{Role, TheKeyName, Variable, Index}
+use Rattle.cv_meaning.specs.contexts.Inlined.{Drawn, Caller}
 use Rattle.cv_inline.specs.NextGame.{Calling, callers_of}
 
 -- What is drawn, in order: for the key, and then for each site by number. There the arguments come first and

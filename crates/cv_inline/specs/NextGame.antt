@@ -4,10 +4,10 @@ use Rattle.std.specs.Prelude.{ℕ, suc, ◌==◌, if◌then◌else◌, List, [],
 use Rattle.cv_syntax_trees.specs.declared.head.Head.{Head}
 use Rattle.cv_syntax_trees.specs.declared.head.Head.TheVariants.{Repl, In, Out, Event, New, Let, If, Branch, Leaf, Read, No, Key, Call}
 use Rattle.cv_syntax_trees.specs.Tree.{Tree, Empty, Node, lone, first, second}
-use Rattle.cv_meaning_contexts.specs.Groups.{Right, Function, Group, side_group, function_at}
-use Rattle.cv_meaning_contexts.specs.Sites.{is_call}
-use Rattle.cv_meaning_contexts.specs.Sides.{Context}
-use Rattle.cv_meaning_contexts.specs.Inlined.{Drawn, Caller, TheKey, inlined_call}
+use Rattle.cv_meaning.specs.contexts.Groups.{Right, Function, Group, side_group, function_at}
+use Rattle.cv_meaning.specs.contexts.Sites.{is_call}
+use Rattle.cv_meaning.specs.contexts.Sides.{Context}
+use Rattle.cv_meaning.specs.contexts.Inlined.{Drawn, Caller, TheKey, inlined_call}
 use Rattle.cv_lists.specs.Options.{first_of}
 
 -- the callers of a context

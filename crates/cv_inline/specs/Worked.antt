@@ -7,9 +7,9 @@ use Rattle.std.specs.Prelude.{ℕ, List, [], ◌∷◌, map}
 use Rattle.cv_syntax_trees.specs.declared.head.Head.TheVariants.{Stop, Yield, Par, Repl, New, Let, Yes, No, Cons, Equivalence, Bound, Key, Call}
 use Rattle.cv_syntax_trees.specs.Tree.{Tree, Empty, Node, lone, chain, binders}
 use Rattle.cv_syntax_trees.specs.Builders.{leaf, read, input, output, event, branch, find}
-use Rattle.cv_meaning_contexts.specs.Groups.{Right, side_group}
-use Rattle.cv_meaning_contexts.specs.Sides.{Context}
-use Rattle.cv_meaning_contexts.specs.Worked.{apply, both, equal, oracle, test}
+use Rattle.cv_meaning.specs.contexts.Groups.{Right, side_group}
+use Rattle.cv_meaning.specs.contexts.Sides.{Context}
+use Rattle.cv_meaning.specs.contexts.Worked.{apply, both, equal, oracle, test}
 use Rattle.cv_inline.specs.NextGame.{callings_of, next_of}
 use Rattle.cv_inline.specs.Draws.{Draw, draws_of, label_draws, labels_in, labels_from, drawn_by}
 

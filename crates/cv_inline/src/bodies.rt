@@ -6,11 +6,11 @@ ghost use Rattle.cv_meaning.specs.Side.{Arrays, OracleCall};
 ghost use Rattle.cv_meaning.specs.Memory.{Happened, Store};
 ghost use Rattle.cv_meaning.specs.Terms.{value};
 ghost use Rattle.cv_meaning.specs.Serving.{serve};
-ghost use Rattle.cv_meaning_contexts.specs.Groups.{Function};
-ghost use Rattle.cv_meaning_contexts.specs.Frames.{Frame};
-ghost use Rattle.cv_meaning_contexts.specs.BodyTerms.{body_value};
-ghost use Rattle.cv_meaning_contexts.specs.Bodies.{body_answer, function_called, reply, with_arguments};
-ghost use Rattle.cv_meaning_contexts.specs.Inlined.{Scope, TheKey, in_game, inlined_body, inlined_call};
+ghost use Rattle.cv_meaning.specs.contexts.Groups.{Function};
+ghost use Rattle.cv_meaning.specs.contexts.Frames.{Frame};
+ghost use Rattle.cv_meaning.specs.contexts.BodyTerms.{body_value};
+ghost use Rattle.cv_meaning.specs.contexts.Bodies.{body_answer, function_called, reply, with_arguments};
+ghost use Rattle.cv_meaning.specs.contexts.Inlined.{Scope, TheKey, in_game, inlined_body, inlined_call};
 ghost use Rattle.cv_inline.specs.bodies.Inlining.{Inlining, Naming};
 ghost use Rattle.cv_inline.specs.bodies.Accepted.{IsFineBody, IsFineCall, IsFineTerm};
 ghost use Rattle.cv_inline.specs.bodies.Related.{

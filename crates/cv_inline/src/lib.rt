@@ -9,7 +9,7 @@ ghost use Rattle.std.specs.Prelude.{◌≡◌, ℕ, ◌==◌, true, List, [], �
 ghost use Rattle.std.specs.List.{IsDistinct};
 ghost use Rattle.cv_syntax_trees.specs.Tree.{subtree};
 ghost use Rattle.cv_inline.specs.NextGame.{callings_of};
-ghost use Rattle.cv_meaning_contexts.specs.Roles.{Role};
+ghost use Rattle.cv_meaning.specs.contexts.Roles.{Role};
 ghost use Rattle.cv_inline.specs.Draws.{
   Draw,
   drawn_for,

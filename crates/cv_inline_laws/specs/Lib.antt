@@ -1,3 +1,4 @@
 pub mod extents
 pub mod runs
 pub mod worked
+pub mod draws

@@ -2,8 +2,8 @@
 
 ghost use Rattle.std.specs.Prelude.{◌≡◌, ℕ, []};
 ghost use Rattle.cv_syntax_trees.specs.Tree.{Tree, depth, size};
-ghost use Rattle.cv_meaning_contexts.specs.Sides.{Context};
-ghost use Rattle.cv_meaning_contexts.specs.Inlined.{Drawn};
+ghost use Rattle.cv_meaning.specs.contexts.Sides.{Context};
+ghost use Rattle.cv_meaning.specs.contexts.Inlined.{Drawn};
 ghost use Rattle.cv_inline.specs.NextGame.{inlined_calls_of, next_of};
 ghost use Rattle.cv_inline_laws.specs.extents.Extents.{all_nodes, extent, longest_path, of_game};
 

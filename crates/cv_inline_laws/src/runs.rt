@@ -11,9 +11,9 @@ ghost use Rattle.cv_meaning.specs.Serving.{serve, visits};
 ghost use Rattle.cv_meaning.specs.Runs.{Adversary, Mode};
 ghost use Rattle.cv_meaning.specs.Experiments.{Experiment, holds_on, mode_of, run};
 ghost use Rattle.cv_meaning_runs.specs.Simulation.{AreAlike, AreServedAlike, InOrder};
-ghost use Rattle.cv_meaning_contexts.specs.Groups.{Function};
-ghost use Rattle.cv_meaning_contexts.specs.Bodies.{reply};
-ghost use Rattle.cv_meaning_contexts.specs.Inlined.{Caller, TheKey, inlined_call};
+ghost use Rattle.cv_meaning.specs.contexts.Groups.{Function};
+ghost use Rattle.cv_meaning.specs.contexts.Bodies.{reply};
+ghost use Rattle.cv_meaning.specs.contexts.Inlined.{Caller, TheKey, inlined_call};
 ghost use Rattle.cv_inline.specs.bodies.Related.{MadeUnder};
 ghost use Rattle.cv_inline.specs.NextGame.{callers_of, next_in};
 ghost use Rattle.cv_inline_laws.specs.runs.Texts.{

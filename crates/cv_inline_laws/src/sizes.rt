@@ -2,8 +2,8 @@
 
 ghost use Rattle.std.specs.Prelude.{◌≡◌, ℕ};
 ghost use Rattle.cv_syntax_trees.specs.Tree.{depth, size};
-ghost use Rattle.cv_meaning_contexts.specs.Sides.{Context};
-ghost use Rattle.cv_meaning_contexts.specs.Inlined.{Drawn};
+ghost use Rattle.cv_meaning.specs.contexts.Sides.{Context};
+ghost use Rattle.cv_meaning.specs.contexts.Inlined.{Drawn};
 ghost use Rattle.cv_inline.specs.NextGame.{next_of};
 
 /// Whatever names and labels are drawn for it, the next game of a context has one size and one depth.

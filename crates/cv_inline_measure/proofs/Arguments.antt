@@ -3,7 +3,7 @@ use Rattle.std.proofs.Common.{◌≡◌, ◌≤◌, List, ◌∷◌, Some, None,
 use Rattle.cv_syntax_trees.specs.declared.head.Head.TheVariants.{Binder}
 use Rattle.cv_syntax_trees.specs.Tree.{Tree, Empty, Node, second, size}
 use Rattle.cv_meaning.specs.Correspondences.{typed_names}
-use Rattle.cv_meaning_contexts.specs.Inlined.{Caller, Drawn, Own, Scope}
+use Rattle.cv_meaning.specs.contexts.Inlined.{Caller, Drawn, Own, Scope}
 use Rattle.cv_inline_laws.specs.extents.Extents.{Extent, Measure, extent, of_body, of_call, under}
 use Rattle.cv_inline_sites.specs.Calls.{Argument, first_argument}
 

@@ -5,7 +5,7 @@ use Rattle.std.proofs.lemmas.List.{flat_map_more, map-append, take_all, take_mor
 use Rattle.cv_pool.specs.KindTree.{KindTree}
 use Rattle.cv_syntax_trees.specs.declared.head.Head.TheVariants.{Binder, Branch, Cons}
 use Rattle.cv_syntax_trees.specs.Tree.{Tree, Node}
-use Rattle.cv_meaning_contexts.specs.Inlined.{Caller, Drawn, Scope, index_terms, with_call_of}
+use Rattle.cv_meaning.specs.contexts.Inlined.{Caller, Drawn, Scope, index_terms, with_call_of}
 use Rattle.cv_inline_laws.specs.extents.Extents as extents
 use Rattle.cv_inline_laws.specs.extents.Extents.{Extent, all_beside, beside, front, of_body, of_branches, of_find, under}
 use Rattle.cv_inline_sites.specs.declared.pairs.pairs.Pair as code

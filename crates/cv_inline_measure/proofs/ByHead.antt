@@ -6,7 +6,7 @@ use Rattle.cv_syntax_trees.specs.declared.head.Head.{Head}
 use Rattle.cv_syntax_trees.specs.declared.head.Head.TheVariants.{New, Let, If, Find}
 use Rattle.cv_syntax_trees.specs.Tree.{Tree, Empty, Node, first_place, second_place}
 use Rattle.cv_syntax.specs.PoolTrees.{tree_at}
-use Rattle.cv_meaning_contexts.specs.Inlined.{Caller, Drawn, Own, Scope, in_game}
+use Rattle.cv_meaning.specs.contexts.Inlined.{Caller, Drawn, Own, Scope, in_game}
 use Rattle.cv_inline_laws.specs.extents.Extents.{Extent, Measure, beside, extent, of_body, of_branches, of_find, of_result, under}
 use Rattle.cv_inline_sites.specs.listing.Subtrees.{IsNodeAt}
 use Rattle.cv_inline_sites.specs.declared.listing.subtree.Subtree.{Subtree}

@@ -4,7 +4,7 @@ use Rattle.cv_pool.specs.declared.node.NodeId.{NodeId}
 use Rattle.cv_syntax_trees.specs.declared.head.Head.TheVariants.{No}
 use Rattle.cv_syntax_trees.specs.Tree.{lone}
 use Rattle.cv_syntax.specs.PoolTrees.{tree_at}
-use Rattle.cv_meaning_contexts.specs.Inlined.{Own, Scope}
+use Rattle.cv_meaning.specs.contexts.Inlined.{Own, Scope}
 use Rattle.cv_inline.specs.declared.terms.caller.Caller.{Caller}
 use Rattle.cv_inline.specs.terms.Drawings.{drawn_in}
 use Rattle.cv_inline_sites.specs.Calls.{argument_in, first_argument}

@@ -6,10 +6,10 @@ use Rattle.cv_pool.specs.declared.node.NodeId.{NodeId}
 use Rattle.cv_syntax_trees.specs.Tree.{Tree}
 use Rattle.cv_syntax.specs.PoolTrees.{tree_at}
 use Rattle.cv_meaning.specs.Correspondences.{typed_names}
-use Rattle.cv_meaning_contexts.specs.Groups.{Group}
+use Rattle.cv_meaning.specs.contexts.Groups.{Group}
 use Rattle.cv_inline.specs.NextGame.{InlinedCalls}
-use Rattle.cv_meaning_contexts.specs.Inlined as bodies
-use Rattle.cv_meaning_contexts.specs.Inlined.{Scope, in_game, index_terms, with_call_of}
+use Rattle.cv_meaning.specs.contexts.Inlined as bodies
+use Rattle.cv_meaning.specs.contexts.Inlined.{Scope, in_game, index_terms, with_call_of}
 use Rattle.cv_inline.specs.declared.terms.caller.Caller.{Caller}
 use Rattle.cv_inline.specs.declared.terms.calling.Calling.{Calling}
 use Rattle.cv_inline.specs.declared.terms.drawn.Drawing.{Drawing}

@@ -1,6 +1,6 @@
 ghost use Rattle.std.specs.Prelude.{◌≡◌, ◌∷◌, ◌++◌, [], ℕ, List, IfOk};
 ghost use Rattle.cv_syntax_trees.specs.declared.head.Head.TheVariants as head;
-ghost use Rattle.cv_meaning_contexts.specs.Inlined.{Own};
+ghost use Rattle.cv_meaning.specs.contexts.Inlined.{Own};
 ghost use Rattle.cv_inline_laws.specs.extents.Extents as extents;
 ghost use Rattle.cv_inline_laws.specs.extents.Extents.{Extent};
 ghost use Rattle.cv_inline.specs.terms.Callers.{IsLiveCaller};

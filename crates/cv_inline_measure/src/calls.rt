@@ -3,7 +3,7 @@ ghost use Rattle.cv_pool.specs.KindTree.{KindTree};
 ghost use Rattle.cv_pool.specs.Nodes.{ChildBelow};
 ghost use Rattle.cv_syntax_trees.specs.Tree.{size};
 ghost use Rattle.cv_syntax.specs.PoolTrees.{tree_at};
-ghost use Rattle.cv_meaning_contexts.specs.Groups.{Group};
+ghost use Rattle.cv_meaning.specs.contexts.Groups.{Group};
 ghost use Rattle.cv_inline.specs.NextGame.{numbered};
 ghost use Rattle.cv_inline_laws.specs.extents.Extents.{of_call_at};
 ghost use Rattle.cv_inline.specs.terms.Callers.{IsLiveCaller};

@@ -2,7 +2,7 @@ ghost use Rattle.std.specs.Prelude.{◌≡◌, ◌∷◌, ◌<◌, ◌^◌, ℕ,
 ghost use Rattle.cv_pool.specs.Nodes.{ChildBelow};
 ghost use Rattle.cv_syntax_trees.specs.Tree.{size};
 ghost use Rattle.cv_syntax.specs.PoolTrees.{tree_at};
-ghost use Rattle.cv_meaning_contexts.specs.Groups.{Group};
+ghost use Rattle.cv_meaning.specs.contexts.Groups.{Group};
 ghost use Rattle.cv_inline_laws.specs.extents.Extents as extents;
 ghost use Rattle.cv_inline_laws.specs.extents.Extents.{Extent, of_game, with_answers};
 ghost use Rattle.cv_inline_measure.specs.Counts.{IsTold};

@@ -2,17 +2,17 @@
 
 ghost use Rattle.std.specs.Prelude.{◌≡◌, ℕ, List, Some, [], ◌∷◌, true};
 ghost use Rattle.cv_syntax_trees.specs.Tree.{Tree, second};
-ghost use Rattle.cv_meaning_contexts.specs.Groups.{Function, Right, function_at, side_group};
-ghost use Rattle.cv_meaning_contexts.specs.Worked.{
+ghost use Rattle.cv_meaning.specs.contexts.Groups.{Function, Right, function_at, side_group};
+ghost use Rattle.cv_meaning.specs.contexts.Worked.{
   authentication_equivalence,
   encryption_equivalence,
   guess_equivalence,
 };
-ghost use Rattle.cv_group_rules.specs.Symbols.{Symbols};
-ghost use Rattle.cv_group_rules.specs.Faults.{IsAccepted};
-ghost use Rattle.cv_group_rules.specs.Rules.{functions_in};
+ghost use Rattle.cv_group.specs.rules.Symbols.{Symbols};
+ghost use Rattle.cv_group.specs.rules.Faults.{IsAccepted};
+ghost use Rattle.cv_group.specs.rules.Rules.{functions_in};
 ghost use Rattle.cv_inline.specs.bodies.Accepted.{IsFineCall};
-ghost use Rattle.cv_meaning_contexts.specs.Inlined.{Caller, TheKey};
+ghost use Rattle.cv_meaning.specs.contexts.Inlined.{Caller, TheKey};
 ghost use Rattle.cv_inline.specs.bodies.Inlining.{Inlining};
 ghost use Rattle.cv_inline_names_laws.specs.accepted.Drawn.{IsDrawnFor};
 ghost use Rattle.cv_inline_names_laws.specs.accepted.RightBodies.{are_as_many, is_right_side};

@@ -3,7 +3,7 @@ use Rattle.std.proofs.Common.{◌≡◌, ℕ, ◌+◌, ◌<◌, List, [], ◌∷
 use Rattle.std.proofs.lemmas.List.{take_all, take_more}
 use Rattle.cv_pool.specs.KindTree.{KindTree}
 use Rattle.cv_syntax_trees.specs.Tree.{Tree}
-use Rattle.cv_meaning_contexts.specs.Inlined.{Drawn}
+use Rattle.cv_meaning.specs.contexts.Inlined.{Drawn}
 use Rattle.cv_inline.specs.NextGame as game
 use Rattle.cv_inline.specs.NextGame.{InlinedCalls, call_in_game}
 use Rattle.cv_inline.specs.declared.terms.caller.Caller.{Caller}

@@ -4,7 +4,7 @@ use Rattle.cv_pool.specs.KindTree.{KindTree}
 use Rattle.cv_pool.specs.declared.node.NodeId.{NodeId}
 use Rattle.cv_syntax_trees.specs.Tree.{Tree}
 use Rattle.cv_syntax.specs.PoolTrees.{tree_at}
-use Rattle.cv_meaning_contexts.specs.Groups.{Group}
+use Rattle.cv_meaning.specs.contexts.Groups.{Group}
 use Rattle.cv_inline.specs.NextGame.{InlinedCalls, Results, next_in}
 use Rattle.cv_inline.specs.declared.terms.calling.Calling.{Calling}
 use Rattle.cv_inline.specs.declared.terms.drawn.Drawing.{Drawing}

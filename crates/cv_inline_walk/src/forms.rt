@@ -1,5 +1,5 @@
 ghost use Rattle.std.specs.Prelude.{◌≡◌};
-ghost use Rattle.cv_meaning_contexts.specs.Groups.{Group};
+ghost use Rattle.cv_meaning.specs.contexts.Groups.{Group};
 ghost use Rattle.cv_inline.specs.NextGame.{game_name};
 ghost use Rattle.cv_inline_walk.specs.Forms as forms;
 ghost use Rattle.cv_inline_walk.specs.Steps.{HasRightKey, calls_of};

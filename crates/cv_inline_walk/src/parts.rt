@@ -1,7 +1,7 @@
 ghost use Rattle.std.specs.Prelude.{◌≡◌, ◌∷◌, ◌+◌, ◌<◌, ◌≤◌, [], ℕ, IfOk, IsErrOf, OnErr, OnOk, Some, length};
 ghost use Rattle.cv_pool.specs.PoolView.{Grows};
 ghost use Rattle.cv_syntax.specs.PoolTrees.{tree_at};
-ghost use Rattle.cv_meaning_contexts.specs.Groups.{Group};
+ghost use Rattle.cv_meaning.specs.contexts.Groups.{Group};
 ghost use Rattle.cv_inline.specs.terms.Stacks.{stack};
 ghost use Rattle.cv_syntax.specs.limits.Limits.{nodes_of};
 ghost use Rattle.cv_inline_measure.specs.Settings.{AreLiveSites};

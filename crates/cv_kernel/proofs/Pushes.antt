@@ -18,7 +18,7 @@ use Rattle.cv_directory.specs.Live.{IsLive}
 use Rattle.cv_bound.specs.declared.cost.Cost.{Cost as SumCost}
 use Rattle.cv_bound.specs.declared.cost.Cost.TheVariants as bound
 use Rattle.cv_bound.specs.Sums.{coefficients, terms_of}
-use Rattle.cv_bound_values.proofs.Coefficients.{coefficients_added, counted_once, counted_twice, small_fit}
+use Rattle.cv_steps.proofs.values.Coefficients.{coefficients_added, counted_once, counted_twice, small_fit}
 use Rattle.cv_edit_places.specs.Plans.{most_coefficients}
 use Rattle.cv_bound.specs.costs.Sums.{SumsFit, with_cost}
 use Rattle.cv_bound.specs.declared.costs.sums.Sums.{Sums}

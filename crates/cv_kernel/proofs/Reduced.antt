@@ -21,10 +21,10 @@ use Rattle.cv_context.specs.products.Shapes.{shape_of}
 use Rattle.cv_context.specs.products.ShapesInCode.{shape_in}
 use Rattle.cv_scene.specs.Scenes.{Scene}
 use Rattle.cv_steps_laws.proofs.Keeping.{formed}
-use Rattle.cv_steps_crypto.specs.Conditions.{equivalence_of, failure_of}
-use Rattle.cv_steps_crypto.specs.Steps.{IsOutcome, IsOutcomeBy}
-use Rattle.cv_steps_crypto.specs.Steps as outcome
-use Rattle.cv_steps_crypto.proofs.Accepted.{accepted}
+use Rattle.cv_steps_laws.specs.crypto.Conditions.{equivalence_of, failure_of}
+use Rattle.cv_steps_laws.specs.crypto.Steps.{IsOutcome, IsOutcomeBy}
+use Rattle.cv_steps_laws.specs.crypto.Steps as outcome
+use Rattle.cv_steps_laws.proofs.crypto.Accepted.{accepted}
 use Rattle.cv_kernel_crypto.specs.declared.games.testing.Next.{Next}
 use Rattle.cv_kernel_crypto.specs.declared.fault.CryptoFault.{CryptoFault}
 use Rattle.cv_kernel_crypto.specs.declared.fault.CryptoFault.TheVariants as crypto

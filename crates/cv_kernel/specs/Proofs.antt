@@ -11,7 +11,7 @@ use Rattle.cv_scene.specs.Scenes.{Scene}
 use Rattle.cv_script.specs.Views.{StepItems, items_of_step}
 use Rattle.cv_script.specs.Views as items
 use Rattle.cv_steps.specs.Sequences.{scene}
-use Rattle.cv_steps_crypto.specs.Conditions.{equivalence_of}
+use Rattle.cv_steps_laws.specs.crypto.Conditions.{equivalence_of}
 use Rattle.cv_kernel.specs.Closings.{Closing, closing_in, is_of_secrecy}
 use Rattle.cv_kernel.specs.Sayings.{Accepted, IsSaid}
 use Rattle.cv_kernel.specs.Sequences.{needed_for}

@@ -21,9 +21,9 @@ use Rattle.cv_rule_birthday.specs.Row.{birthday_step}
 use Rattle.cv_rule_codef.specs.Needs.{need_codef}
 use Rattle.cv_rule_codef.specs.Row.{codef_step}
 use Rattle.cv_rule_fresh.specs.collisions.Fresh.{fresh_step}
-use Rattle.cv_rule_guess.specs.Needs.{need_guessing}
-use Rattle.cv_rule_guess.specs.Row.{guess_step}
-use Rattle.cv_rule_merge.specs.Row.{merge_step, need_merging}
+use Rattle.cv_rule_birthday.specs.guess.Needs.{need_guessing}
+use Rattle.cv_rule_birthday.specs.guess.Row.{guess_step}
+use Rattle.cv_rule_move.specs.merge.Row.{merge_step, need_merging}
 use Rattle.cv_rule_move.specs.Steps.{move_step, need_moving}
 use Rattle.cv_rule_pick.specs.Needs.{need_picking}
 use Rattle.cv_rule_pick.specs.Row.{pick_step}

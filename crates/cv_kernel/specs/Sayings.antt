@@ -10,8 +10,8 @@ use Rattle.cv_script.specs.Views as items
 use Rattle.cv_steps.specs.Costs.{cost_of}
 use Rattle.cv_steps.specs.Judgements.{Judgement}
 use Rattle.cv_steps.specs.Judgements as judgement
-use Rattle.cv_steps_crypto.specs.Steps.{IsOutcome, Outcome}
-use Rattle.cv_steps_crypto.specs.Steps as outcome
+use Rattle.cv_steps_laws.specs.crypto.Steps.{IsOutcome, Outcome}
+use Rattle.cv_steps_laws.specs.crypto.Steps as outcome
 use Rattle.cv_bound.specs.costs.Costs.{advantage_of}
 use Rattle.cv_kernel.specs.Closings.{judgement_in}
 

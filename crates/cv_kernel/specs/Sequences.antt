@@ -23,9 +23,9 @@ use Rattle.cv_scene.specs.Reductions.{context_of_game}
 use Rattle.cv_scene.specs.Scenes.{Scene}
 use Rattle.cv_script.specs.Views.{StepItems, items_of_step}
 use Rattle.cv_script.specs.Views as items
-use Rattle.cv_steps_crypto.specs.Conditions.{equivalence_of}
-use Rattle.cv_steps_crypto.specs.Steps.{IsOutcome, reduction_of}
-use Rattle.cv_steps_crypto.specs.Steps as outcome
+use Rattle.cv_steps_laws.specs.crypto.Conditions.{equivalence_of}
+use Rattle.cv_steps_laws.specs.crypto.Steps.{IsOutcome, reduction_of}
+use Rattle.cv_steps_laws.specs.crypto.Steps as outcome
 use Rattle.cv_kernel_crypto.specs.Applied as applied
 use Rattle.cv_kernel_crypto.specs.declared.fault.CryptoFault.{CryptoFault}
 use Rattle.cv_kernel_crypto.specs.declared.fault.CryptoFault.TheVariants as crypto

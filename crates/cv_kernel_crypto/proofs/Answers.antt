@@ -11,8 +11,8 @@ use Rattle.cv_bound.specs.declared.cost.Cost.TheVariants as bound
 use Rattle.cv_scene.specs.Reductions.{context_of_game}
 use Rattle.cv_scene.specs.Scenes.{Scene}
 use Rattle.cv_kernel_crypto.specs.declared.games.testing.Next.{Next}
-use Rattle.cv_steps_crypto.specs.Conditions.{failure_of}
-use Rattle.cv_steps_crypto.specs.Steps.{Accepted, IsOutcome, Refused, is_next, reduction_of}
+use Rattle.cv_steps_laws.specs.crypto.Conditions.{failure_of}
+use Rattle.cv_steps_laws.specs.crypto.Steps.{Accepted, IsOutcome, Refused, is_next, reduction_of}
 use Rattle.cv_kernel_crypto.specs.declared.fault.CryptoFault.{CryptoFault}
 use Rattle.cv_kernel_crypto.specs.declared.fault.Failure.{Failure as CryptoFailure}
 use Rattle.cv_kernel_crypto.specs.declared.fault.CryptoFault.TheVariants as crypto

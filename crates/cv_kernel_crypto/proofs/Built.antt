@@ -6,20 +6,20 @@ use Rattle.cv_pool.specs.PoolView.{PoolView, Grows}
 use Rattle.cv_syntax.specs.Classes.{DeclsView}
 use Rattle.cv_syntax_trees.specs.Tree.{Tree}
 use Rattle.cv_syntax.specs.PoolTrees.{tree_at}
-use Rattle.cv_meaning_contexts.specs.Groups.{Right, side_group}
+use Rattle.cv_meaning.specs.contexts.Groups.{Right, side_group}
 use Rattle.cv_scene_view.specs.Kept.{scene_of}
 use Rattle.cv_scene.specs.Reductions.{Reduction, context_of_game}
 use Rattle.cv_scene.specs.Scenes.{Scene}
 use Rattle.cv_match_laws.specs.answers.Drawn.{draws, finds}
 use Rattle.cv_inline.specs.NextGame.{next_of}
 use Rattle.cv_inline_draws.specs.names.Fresh.{IsDrawnFor}
-use Rattle.cv_steps_crypto.specs.reductions.Tables.{labels}
+use Rattle.cv_steps_laws.specs.crypto.reductions.Tables.{labels}
 use Rattle.cv_inline_draws.specs.taken_names.Taken.{taken_names}
-use Rattle.cv_meaning_contexts.specs.Inlined.{Drawn}
-use Rattle.cv_steps_crypto.specs.Conditions.{equivalence_of}
+use Rattle.cv_meaning.specs.contexts.Inlined.{Drawn}
+use Rattle.cv_steps_laws.specs.crypto.Conditions.{equivalence_of}
 use Rattle.cv_inline_walk.specs.Made.{IsTreeAt}
 use Rattle.cv_inline_walk.specs.Steps.{next_tree}
-use Rattle.cv_steps_crypto.specs.Steps.{IsNextGame, reduction_of}
+use Rattle.cv_steps_laws.specs.crypto.Steps.{IsNextGame, reduction_of}
 use Rattle.cv_kernel_crypto.specs.declared.inlining.Inlining.{Inlining}
 use Rattle.cv_kernel_crypto.specs.declared.instances.Instances.{Instances}
 use Rattle.cv_kernel_crypto.specs.Applied.{IsDrawn, IsDrawnWith}

@@ -11,7 +11,7 @@ use Rattle.cv_syntax.specs.Classes.{class_by, class_in, declaration_in}
 use Rattle.cv_syntax_trees.specs.Declarations.{Declaration}
 use Rattle.cv_syntax.specs.Declarations.{declarations, declared}
 use Rattle.cv_syntax_trees.specs.Tree.{Tree, Empty, Node}
-use Rattle.cv_typing_rules.specs.Signature.{declaration_of}
+use Rattle.cv_scope_rules.specs.typing.Signature.{declaration_of}
 use Rattle.cv_typing.proofs.Bridges.{declaration_same}
 use Rattle.cv_scene.specs.Scenes.{is_type_by}
 use Rattle.cv_scene_view.specs.Kept.{is_type_class}
@@ -19,7 +19,7 @@ use Rattle.cv_scene_view.proofs.Tested.{type_same}
 use Rattle.cv_kernel_crypto.specs.declared.sorts.Role.{Role}
 use Rattle.cv_kernel_crypto.specs.declared.sorts.Role.TheVariants.{OfParameter, OfType}
 use Rattle.cv_kernel_crypto.specs.Roles.{binds_one, is_of, is_parameter_class}
-use Rattle.cv_steps_crypto.specs.Sorts.{are_declared, has_declared_sorts, is_parameter, is_parameter_by, names_declared}
+use Rattle.cv_steps_laws.specs.crypto.Sorts.{are_declared, has_declared_sorts, is_parameter, is_parameter_by, names_declared}
 
 parameter_by : (trees : List KindTree) (o : Option Decl) → is_parameter_class (class_by o) ≡ is_parameter_by (option_map (declared trees) o)
 parameter_by trees None = refl

@@ -10,7 +10,7 @@ use Rattle.cv_syntax.specs.declared.decls.Decl.TheVariants as decl
 use Rattle.cv_syntax.specs.Declarations.{declared}
 use Rattle.cv_syntax_trees.specs.Tree.{Tree}
 use Rattle.cv_syntax.specs.PoolTrees.{tree_at}
-use Rattle.cv_typing_rules.specs.Signature.{declaration_of}
+use Rattle.cv_scope_rules.specs.typing.Signature.{declaration_of}
 use Rattle.cv_scene.specs.Contexts.{matching_of}
 use Rattle.cv_scene.specs.Refusals.{Refusal, first_refusal}
 use Rattle.cv_scene.specs.Scenes.{names}
@@ -18,7 +18,7 @@ use Rattle.cv_scene_view.specs.Kept.{scene_of}
 use Rattle.cv_match.specs.declared.fault.MatchFault.{MatchFault}
 use Rattle.cv_match.specs.declared.fault.MatchFault.TheVariants as match
 use Rattle.cv_match.specs.Matched.{IsFault}
-use Rattle.cv_steps_crypto.specs.Conditions.{Failure, equivalence_by, equivalence_of, failed, failure_by, failure_of, failure_with}
+use Rattle.cv_steps_laws.specs.crypto.Conditions.{Failure, equivalence_by, equivalence_of, failed, failure_by, failure_of, failure_with}
 use Rattle.cv_kernel_crypto.specs.declared.fault.CryptoFault.{CryptoFault}
 use Rattle.cv_kernel_crypto.specs.Faults.{IsRefused, fault_of}
 

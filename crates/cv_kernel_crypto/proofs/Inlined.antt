@@ -3,8 +3,8 @@ use Rattle.std.proofs.Common.{◌≡◌, ℕ, List, [], map, Some, ap, ◌∙◌
 use Rattle.cv_pool.specs.KindTree.{KindTree}
 use Rattle.cv_pool.specs.declared.node.NodeId.{NodeId}
 use Rattle.cv_syntax.specs.PoolTrees.{tree_at}
-use Rattle.cv_meaning_contexts.specs.Groups.{Right, side_group}
-use Rattle.cv_meaning_contexts.specs.Inlined.{Drawn}
+use Rattle.cv_meaning.specs.contexts.Groups.{Right, side_group}
+use Rattle.cv_meaning.specs.contexts.Inlined.{Drawn}
 use Rattle.cv_match_terms.specs.declared.patterns.site.Site.{Site}
 use Rattle.cv_scene.specs.Reductions.{Reduction, context_of_game}
 use Rattle.cv_match_laws.specs.answers.Drawn.{callings, draws, finds}
@@ -12,7 +12,7 @@ use Rattle.cv_inline.specs.Draws.{draws_of, label_draws, labels_from, labels_in}
 use Rattle.cv_inline.specs.NextGame as game
 use Rattle.cv_inline.specs.NextGame.{callings_from, next_in}
 use Rattle.cv_inline_draws.specs.names.Fresh.{IsDrawnFor}
-use Rattle.cv_steps_crypto.specs.reductions.Tables.{labels}
+use Rattle.cv_steps_laws.specs.crypto.reductions.Tables.{labels}
 use Rattle.cv_inline.specs.terms.Drawings.{drawn_in}
 use Rattle.cv_inline_walk.specs.Steps.{next_tree}
 use Rattle.cv_kernel_crypto.specs.declared.inlining.Inlining.{Inlining}

@@ -9,9 +9,9 @@ use Rattle.cv_syntax_trees.specs.Tree.{Tree, Empty, Node}
 use Rattle.cv_scene.specs.Scenes.{head_names, names}
 use Rattle.cv_match_laws.specs.answers.Answers.{above_head, above_names}
 use Rattle.cv_inline_draws.specs.names.Texts.{is_listed}
-use Rattle.cv_steps_crypto.specs.reductions.Tables.{HasNamesBelow}
+use Rattle.cv_steps_laws.specs.crypto.reductions.Tables.{HasNamesBelow}
 use Rattle.cv_inline_draws.specs.taken_names.Taken.{taken_names}
-use Rattle.cv_steps_crypto.specs.Steps.{first_answer}
+use Rattle.cv_steps_laws.specs.crypto.Steps.{first_answer}
 use Rattle.cv_kernel_crypto.specs.Stages.{AreTakenNames}
 
 -- one more than each name is no more than a number above all

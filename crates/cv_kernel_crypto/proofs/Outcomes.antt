@@ -12,8 +12,8 @@ use Rattle.cv_syntax_trees.specs.Tree.{Tree, depth, size}
 use Rattle.cv_scene.specs.Reductions.{context_of_game}
 use Rattle.cv_scene.specs.Scenes.{Scene}
 use Rattle.cv_inline_walk.specs.Made.{IsMade}
-use Rattle.cv_steps_crypto.specs.Conditions.{equivalence_of, failure_of}
-use Rattle.cv_steps_crypto.specs.Steps.{Accepted, IsNextGame, IsOutcome, IsOutcomeBy, IsOutcomeOf, Outcome, Refused, TooDeep, TooLarge, is_next, reduction_of}
+use Rattle.cv_steps_laws.specs.crypto.Conditions.{equivalence_of, failure_of}
+use Rattle.cv_steps_laws.specs.crypto.Steps.{Accepted, IsNextGame, IsOutcome, IsOutcomeBy, IsOutcomeOf, Outcome, Refused, TooDeep, TooLarge, is_next, reduction_of}
 use Rattle.cv_syntax.specs.limits.Limits.{nodes_of, told}
 use Rattle.cv_kernel_crypto.specs.declared.fault.CryptoFault.{CryptoFault}
 use Rattle.cv_kernel_crypto.specs.declared.fault.CryptoFault.TheVariants as crypto

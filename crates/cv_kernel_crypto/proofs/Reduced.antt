@@ -14,7 +14,7 @@ use Rattle.cv_scene.specs.Sites as instances
 use Rattle.cv_context.specs.Roles.{AreSitesOf, name_at}
 use Rattle.cv_match_laws.specs.answers.Answers.{above_names, answer_above}
 use Rattle.cv_context_laws.proofs.calls.Alike.{alike_contexts}
-use Rattle.cv_steps_crypto.specs.Steps.{first_answer, reduction_of}
+use Rattle.cv_steps_laws.specs.crypto.Steps.{first_answer, reduction_of}
 
 module _ (trees : List KindTree) (s : Scene) (e : Tree) (x : ℕ) (sites : List Site) (root : Option NodeId) (a : AreSitesOf trees s e x sites root) where
   count_same : length (sites_of (matching_of s e x)) ≡ length sites

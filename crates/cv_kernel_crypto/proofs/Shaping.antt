@@ -9,7 +9,7 @@ use Rattle.cv_directory_sorts.specs.Sites.{SitesView, sites_of}
 use Rattle.cv_directory.specs.Tables.{seen}
 use Rattle.cv_typing.specs.declared.arrays.Arrays.{Arrays}
 use Rattle.cv_typing.specs.declared.arrays.Arrays.TheVariants as held
-use Rattle.cv_typing_rules.specs.Signature.{OfGame}
+use Rattle.cv_scope_rules.specs.typing.Signature.{OfGame}
 use Rattle.cv_typing.specs.Tables.{arrays_of}
 use Rattle.cv_scope_rules.specs.Phrases.{IsWellFormed}
 use Rattle.cv_scene.specs.Contexts.{matching_of}
@@ -20,7 +20,7 @@ use Rattle.cv_match_terms.specs.declared.patterns.site.Site.{Site}
 use Rattle.cv_context.specs.products.Shapes.{shape_of}
 use Rattle.cv_context.specs.products.ShapesInCode.{IsMatched, shape_in}
 use Rattle.cv_context.specs.declared.products.shape.Shape.{Shape}
-use Rattle.cv_steps_crypto.specs.Conditions.{equivalence_of, failed, failure_by, failure_with}
+use Rattle.cv_steps_laws.specs.crypto.Conditions.{equivalence_of, failed, failure_by, failure_with}
 use Rattle.cv_kernel_crypto.specs.declared.instances.Instances.{Instances}
 use Rattle.cv_kernel_crypto.specs.Stages.{AreInstances, IsMet}
 

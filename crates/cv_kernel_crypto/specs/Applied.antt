@@ -5,21 +5,21 @@ use Rattle.cv_syntax.specs.declared.work.BuildError.TheVariants as build
 use Rattle.cv_syntax_trees.specs.Tree.{Tree, depth, size}
 use Rattle.cv_syntax.specs.PoolTrees.{tree_at}
 use Rattle.cv_bound.specs.declared.cost.Cost.TheVariants as bound
-use Rattle.cv_group_rules.specs.Symbols.{symbols_of}
-use Rattle.cv_group_rules.specs.Faults.{IsAccepted}
+use Rattle.cv_group.specs.rules.Symbols.{symbols_of}
+use Rattle.cv_group.specs.rules.Faults.{IsAccepted}
 use Rattle.cv_match_laws.specs.functions.Forms.{HasLeftForm}
-use Rattle.cv_meaning_contexts.specs.Inlined.{Drawn}
+use Rattle.cv_meaning.specs.contexts.Inlined.{Drawn}
 use Rattle.cv_scene.specs.Reductions.{Reduction, context_of_game}
 use Rattle.cv_scene.specs.Scenes.{Scene}
 use Rattle.cv_syntax.specs.limits.Limits.{most_depth, most_nodes, nodes_of}
 use Rattle.cv_match_laws.specs.answers.Drawn.{draws, finds}
 use Rattle.cv_inline.specs.NextGame.{next_of}
 use Rattle.cv_inline_draws.specs.names.Fresh.{IsDrawnFor}
-use Rattle.cv_steps_crypto.specs.reductions.Tables.{labels}
+use Rattle.cv_steps_laws.specs.crypto.reductions.Tables.{labels}
 use Rattle.cv_inline_draws.specs.taken_names.Taken.{taken_names}
-use Rattle.cv_steps_crypto.specs.Conditions.{equivalence_of, failure_of}
-use Rattle.cv_steps_crypto.specs.Steps.{IsNextGame, IsOutcome, reduction_of}
-use Rattle.cv_steps_crypto.specs.Steps as outcome
+use Rattle.cv_steps_laws.specs.crypto.Conditions.{equivalence_of, failure_of}
+use Rattle.cv_steps_laws.specs.crypto.Steps.{IsNextGame, IsOutcome, reduction_of}
+use Rattle.cv_steps_laws.specs.crypto.Steps as outcome
 use Rattle.cv_kernel_crypto.specs.declared.games.testing.Next.{Next}
 use Rattle.cv_kernel_crypto.specs.declared.fault.CryptoFault.{CryptoFault}
 use Rattle.cv_kernel_crypto.specs.declared.fault.CryptoFault.TheVariants as crypto

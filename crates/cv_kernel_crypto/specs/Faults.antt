@@ -5,7 +5,7 @@ use Rattle.cv_pool.specs.declared.pool.PoolError.TheVariants as pool
 use Rattle.cv_syntax.specs.declared.work.BuildError.TheVariants as build
 use Rattle.cv_match.specs.declared.fault.MatchFault.{MatchFault}
 use Rattle.cv_match.specs.declared.fault.MatchFault.TheVariants as match
-use Rattle.cv_steps_crypto.specs.Conditions.{Failure, failed}
+use Rattle.cv_steps_laws.specs.crypto.Conditions.{Failure, failed}
 use Rattle.cv_kernel_crypto.specs.declared.fault.CryptoFault.{CryptoFault}
 use Rattle.cv_kernel_crypto.specs.declared.fault.CryptoFault.TheVariants as crypto
 

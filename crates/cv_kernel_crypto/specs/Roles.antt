@@ -5,7 +5,7 @@ use Rattle.cv_syntax_trees.specs.declared.class.Class.TheVariants.{Param}
 use Rattle.cv_syntax_trees.specs.declared.head.Head.{Head}
 use Rattle.cv_syntax_trees.specs.declared.head.Head.TheVariants.{Binder}
 use Rattle.cv_syntax_trees.specs.Declarations.{Declaration}
-use Rattle.cv_steps_crypto.specs.Sorts.{is_parameter, is_type}
+use Rattle.cv_steps_laws.specs.crypto.Sorts.{is_parameter, is_type}
 use Rattle.cv_kernel_crypto.specs.declared.sorts.Role.{Role}
 use Rattle.cv_kernel_crypto.specs.declared.sorts.Role.TheVariants.{OfParameter, OfType}
 

@@ -5,7 +5,7 @@ use Rattle.cv_pool.specs.KindTree.{KindTree}
 use Rattle.cv_pool.specs.declared.node.NodeId.{NodeId}
 use Rattle.cv_syntax_trees.specs.Tree.{Tree, size}
 use Rattle.cv_syntax.specs.PoolTrees.{tree_at}
-use Rattle.cv_meaning_contexts.specs.Groups.{Right, side_group}
+use Rattle.cv_meaning.specs.contexts.Groups.{Right, side_group}
 use Rattle.cv_match_terms.specs.declared.patterns.site.Site.{Site}
 use Rattle.cv_context.specs.Roles.{AreSitesOf, IsLiveCall}
 use Rattle.cv_scene.specs.Scenes.{Scene}
@@ -13,12 +13,12 @@ use Rattle.cv_scene.specs.Reductions.{Reduction, context_of_game}
 use Rattle.cv_inline_draws.specs.taken_names.Taken.{taken_names}
 use Rattle.cv_inline_draws.specs.callings.RightFunctions.{HasRightFunctions}
 use Rattle.cv_inline_sites.specs.listing.Callings.{callings_in}
-use Rattle.cv_steps_crypto.specs.reductions.Tables.{GivesNextGame, HasNamesBelow}
+use Rattle.cv_steps_laws.specs.crypto.reductions.Tables.{GivesNextGame, HasNamesBelow}
 use Rattle.cv_inline.specs.terms.Drawings.{drawn_in}
 use Rattle.cv_match_laws.specs.answers.Drawn.{callings}
 use Rattle.cv_syntax.specs.limits.Limits.{nodes_of}
-use Rattle.cv_steps_crypto.specs.Conditions.{equivalence_of, failure_of}
-use Rattle.cv_steps_crypto.specs.Steps.{first_answer}
+use Rattle.cv_steps_laws.specs.crypto.Conditions.{equivalence_of, failure_of}
+use Rattle.cv_steps_laws.specs.crypto.Steps.{first_answer}
 use Rattle.cv_kernel_crypto.specs.declared.fault.CryptoFault.{CryptoFault}
 use Rattle.cv_kernel_crypto.specs.declared.inlining.Inlining.{Inlining}
 use Rattle.cv_kernel_crypto.specs.declared.instances.Instances.{Instances}

@@ -7,7 +7,7 @@ ghost use Rattle.cv_directory.specs.Definitions.{entries_of, large_in};
 ghost use Rattle.cv_directory.specs.Live.{IsLive};
 ghost use Rattle.cv_directory_sorts.specs.Sites.{sites_of};
 ghost use Rattle.cv_directory.specs.Tables.{entries_in};
-ghost use Rattle.cv_typing_rules.specs.Signature.{OfGame};
+ghost use Rattle.cv_scope_rules.specs.typing.Signature.{OfGame};
 ghost use Rattle.cv_typing.specs.Tables.{arrays_of, directory_in};
 ghost use Rattle.cv_scope_rules.specs.Phrases.{IsWellFormed};
 ghost use Rattle.cv_scene_view.specs.Kept.{scene_of};

@@ -7,7 +7,7 @@ ghost use Rattle.cv_scene.specs.Scenes.{Scene};
 ghost use Rattle.cv_scene.specs.Reductions.{context_of_game};
 ghost use Rattle.cv_context.specs.Roles.{AreSitesOf, IsLiveCall, name_at};
 ghost use Rattle.cv_match_laws.specs.answers.Answers.{above_names};
-ghost use Rattle.cv_steps_crypto.specs.Steps.{first_answer, reduction_of};
+ghost use Rattle.cv_steps_laws.specs.crypto.Steps.{first_answer, reduction_of};
 ghost use Rattle.cv_syntax.specs.limits.Limits.{nodes_of};
 
 use crate::naming::FIRST_ANSWER;

@@ -3,7 +3,7 @@ ghost use Rattle.cv_syntax.specs.PoolTrees.{tree_at};
 ghost use Rattle.cv_kernel_crypto.specs.Stages.{AreTakenNames};
 
 use cv_inline_draws::taken_names::taken_names;
-use cv_steps_crypto::reductions::taken_names_are_of_file_and_game;
+use cv_steps_laws::crypto::reductions::taken_names_are_of_file_and_game;
 use cv_syntax::{NodeId, Work};
 use std::alloc::{AllocError, Global};
 

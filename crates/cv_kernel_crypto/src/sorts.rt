@@ -4,7 +4,7 @@ ghost use Rattle.cv_pool.specs.Nodes.{ChildBelow};
 ghost use Rattle.cv_syntax.specs.Declarations.{declarations};
 ghost use Rattle.cv_syntax.specs.PoolTrees.{tree_at};
 ghost use Rattle.cv_scene_view.specs.Kept.{is_type_class};
-ghost use Rattle.cv_steps_crypto.specs.Sorts as sorts;
+ghost use Rattle.cv_steps_laws.specs.crypto.Sorts as sorts;
 ghost use Rattle.cv_kernel_crypto.specs.Roles.{binds_one, is_of, is_parameter_class};
 
 use cv_syntax::children::second_of;

@@ -6,11 +6,11 @@ ghost use Rattle.cv_directory.specs.Definitions.{entries_of, large_in};
 ghost use Rattle.cv_directory.specs.Live.{IsLive};
 ghost use Rattle.cv_directory_sorts.specs.Sites.{sites_of};
 ghost use Rattle.cv_directory.specs.Tables.{entries_in, seen};
-ghost use Rattle.cv_typing_rules.specs.Signature.{OfGame};
+ghost use Rattle.cv_scope_rules.specs.typing.Signature.{OfGame};
 ghost use Rattle.cv_typing.specs.Tables.{arrays_of, directory_in};
 ghost use Rattle.cv_meaning.specs.Queries.{queries_in};
-ghost use Rattle.cv_steps_crypto.specs.Secrets as secrets;
-ghost use Rattle.cv_steps_crypto.specs.Steps.{is_next};
+ghost use Rattle.cv_steps_laws.specs.crypto.Secrets as secrets;
+ghost use Rattle.cv_steps_laws.specs.crypto.Steps.{is_next};
 ghost use Rattle.cv_kernel_crypto.specs.Faults.{IsNoNext, IsNotKept};
 
 use crate::fault::{CryptoFault, refused};

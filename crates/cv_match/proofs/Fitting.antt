@@ -12,7 +12,7 @@ use Rattle.cv_syntax.specs.declared.decls.Decl.TheVariants as decl
 use Rattle.cv_directory.specs.Live.{IsLive}
 use Rattle.cv_syntax_trees.specs.Tree.{Tree, Empty, Node, first, first_place, second, second_place, size}
 use Rattle.cv_directory_sorts.specs.Sites.{first_of}
-use Rattle.cv_meaning_contexts.specs.Groups.{Function, Group, Left, functions_of, side_group}
+use Rattle.cv_meaning.specs.contexts.Groups.{Function, Group, Left, functions_of, side_group}
 use Rattle.cv_scope_rules.specs.declared.position.Position.{Position}
 use Rattle.cv_scope_rules.specs.declared.position.Position.TheVariants.{Anywhere}
 use Rattle.cv_scope_rules.specs.Context.{first_position, replications_below, second_position}

@@ -5,7 +5,7 @@ use Rattle.cv_syntax_trees.specs.Tree.{Tree, same_tree, size}
 use Rattle.cv_syntax.specs.PoolTrees.{tree_at}
 use Rattle.cv_scope_rules.specs.Context.{cell_of}
 use Rattle.cv_scene.specs.Scenes.{is_queried}
-use Rattle.cv_meaning_contexts.specs.Groups.{function_of}
+use Rattle.cv_meaning.specs.contexts.Groups.{function_of}
 use Rattle.cv_scene.specs.Instances.{Matching}
 use Rattle.cv_scene.specs.Refusals.{are_coins, first_in_arguments, uses}
 use Rattle.cv_scene.specs.Sites as instances

@@ -2,7 +2,7 @@ ghost use Rattle.std.specs.Prelude.{◌≡◌, ◌==◌, All, Some, length, map,
 ghost use Rattle.cv_pool.specs.Nodes.{ChildBelow};
 ghost use Rattle.cv_syntax.specs.PoolTrees.{tree_at};
 ghost use Rattle.cv_meaning.specs.Correspondences.{typed_names};
-ghost use Rattle.cv_meaning_contexts.specs.Groups.{function_of};
+ghost use Rattle.cv_meaning.specs.contexts.Groups.{function_of};
 ghost use Rattle.cv_scene.specs.Scenes.{is_queried};
 ghost use Rattle.cv_scene.specs.Sights as sights;
 ghost use Rattle.cv_directory.specs.Live.{IsLive};

@@ -6,7 +6,7 @@ use Rattle.std.proofs.lemmas.List.{length-reverse, map-append, reverse-append, r
 use Rattle.cv_syntax_trees.specs.Tree.{Tree, same_tree}
 use Rattle.cv_syntax_trees.proofs.Equality.{same_tree_exact}
 use Rattle.cv_syntax_trees.proofs.Equality.{same_tree_self}
-use Rattle.cv_meaning_contexts.specs.Groups.{Function, Group}
+use Rattle.cv_meaning.specs.contexts.Groups.{Function, Group}
 use Rattle.cv_scene.specs.Scenes.{or_empty}
 use Rattle.cv_scene.specs.Sights.{variable_of}
 use Rattle.cv_scene.specs.Instances.{Instance, IsInstance, Matching, are_of_types, filled, guess, instance_of, is_argument_of, is_coin_of, is_instance, is_read_of, names_of, standing_for, term_for, terms_of}

@@ -7,7 +7,7 @@ use Rattle.cv_syntax_trees.specs.declared.head.Head.TheVariants.{Apply, Bound, C
 use Rattle.cv_syntax_trees.specs.Builders.{branch, event, find, input, leaf, output, read}
 use Rattle.cv_syntax_trees.specs.Declarations.{Declaration, Named}
 use Rattle.cv_syntax_trees.specs.Tree.{Tree, Empty, Node, binders, chain, lone, names}
-use Rattle.cv_meaning_contexts.specs.Groups.{Left, side_group}
+use Rattle.cv_meaning.specs.contexts.Groups.{Left, side_group}
 use Rattle.cv_scene.specs.Scenes.{Scene}
 use Rattle.cv_scene.specs.Instances.{Matching}
 use Rattle.cv_scene.specs.Sites.{Site}

@@ -10,7 +10,7 @@ pub mod values;
 ghost use Rattle.std.specs.Prelude.{◌≡◌, ◌↔◌, [], ◌∷◌, map, None, Some};
 ghost use Rattle.cv_syntax_trees.specs.Builders.{leaf};
 ghost use Rattle.cv_syntax_trees.specs.Tree.{Tree};
-ghost use Rattle.cv_meaning_contexts.specs.Groups.{Function};
+ghost use Rattle.cv_meaning.specs.contexts.Groups.{Function};
 ghost use Rattle.cv_scene.specs.Instances.{Instance, IsInstance, Matching, instance_of};
 ghost use Rattle.cv_match_laws.specs.Named.{ReadsItsNames};
 ghost use Rattle.cv_scene.specs.Sites.{sites_of};

@@ -19,3 +19,4 @@ pub mod Direct
 pub mod Queries
 pub mod Replaced
 pub mod Still
+pub mod contexts

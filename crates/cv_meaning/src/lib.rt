@@ -1,3 +1,5 @@
 // The meaning of the calculus: interpretations, tapes, runs, experiments and advantages. Definitions
 // alone, in `specs/`; their laws stand in the crates `cv_meaning_*`.
 #![tactic(auto)]
+
+pub mod contexts;

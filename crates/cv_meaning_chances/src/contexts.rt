@@ -10,14 +10,14 @@ ghost use Rattle.cv_meaning.specs.Interpretation.{Interpretation, setting_of};
 ghost use Rattle.cv_meaning.specs.Runs.{Real, Random};
 ghost use Rattle.cv_meaning.specs.Experiments.{Breaks, Guesses};
 ghost use Rattle.cv_meaning_laws.specs.Worked.{adversary, never_query, declared_file};
-ghost use Rattle.cv_meaning_contexts.specs.Groups.{Left, Right};
-ghost use Rattle.cv_meaning_contexts.specs.Frames.{Frame};
-ghost use Rattle.cv_meaning_contexts.specs.Finds.{Oracles, Pick, picks};
-ghost use Rattle.cv_meaning_contexts.specs.Made.{WasMade, have_own_cells};
-ghost use Rattle.cv_meaning_contexts.specs.Sides.{side_from};
-ghost use Rattle.cv_meaning_contexts.specs.ContextAdvantage.{context_chance, context_advantage};
-ghost use Rattle.cv_meaning_contexts.specs.OwnCells.{IsOfCall};
-ghost use Rattle.cv_meaning_contexts.specs.Worked.{parity, answers, at_site, site, side_at, tag, call_with, bound_twice, constant_group, keeper, get, guessing, is_key, guess_equivalence, guess_context, guesses_zero, tells_the_test, authentication_context, forges, asks};
+ghost use Rattle.cv_meaning.specs.contexts.Groups.{Left, Right};
+ghost use Rattle.cv_meaning.specs.contexts.Frames.{Frame};
+ghost use Rattle.cv_meaning.specs.contexts.Finds.{Oracles, Pick, picks};
+ghost use Rattle.cv_meaning.specs.contexts.Made.{WasMade, have_own_cells};
+ghost use Rattle.cv_meaning.specs.contexts.Sides.{side_from};
+ghost use Rattle.cv_meaning.specs.contexts.ContextAdvantage.{context_chance, context_advantage};
+ghost use Rattle.cv_meaning.specs.contexts.OwnCells.{IsOfCall};
+ghost use Rattle.cv_meaning.specs.contexts.Worked.{parity, answers, at_site, site, side_at, tag, call_with, bound_twice, constant_group, keeper, get, guessing, is_key, guess_equivalence, guess_context, guesses_zero, tells_the_test, authentication_context, forges, asks};
 
 /// A side's answer to a call depends on the key and on the listed cells of the call alone. Each cell is
 /// listed once, and is no other call's.

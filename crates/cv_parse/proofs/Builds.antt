@@ -21,8 +21,8 @@ use Rattle.cv_syntax.proofs.Trees.{tree_at_None}
 use Rattle.cv_parse_grammar.specs.Filled.{filled}
 use Rattle.cv_parse_grammar.specs.Identities.{AreDistinct, ids_of}
 use Rattle.cv_parse_grammar.specs.Rules.{File}
-use Rattle.cv_parse_signature.specs.declared.heard.Heard.{Heard}
-use Rattle.cv_parse_signature.specs.Declares.{IsWhole, heard_of, parts_of, tree_in}
+use Rattle.cv_parse_declarations.specs.declared.signature.heard.Heard.{Heard}
+use Rattle.cv_parse_declarations.specs.signature.Declares.{IsWhole, heard_of, parts_of, tree_in}
 use Rattle.cv_parse_declarations.specs.declared.file.Reading.{Reading}
 use Rattle.cv_parse.specs.Building.{Builds}
 use Rattle.cv_parse.specs.Declaring.{IsBelow, IsNameable, all_decls, bool_decl, decl_of, named_by, names_by}

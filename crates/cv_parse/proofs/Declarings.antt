@@ -9,12 +9,12 @@ use Rattle.cv_syntax_trees.specs.declared.class.Class.TheVariants as class
 use Rattle.cv_syntax.specs.declared.decls.Decl.{Decl}
 use Rattle.cv_syntax.specs.declared.decls.Decl.TheVariants as decl
 use Rattle.cv_syntax.specs.Classes.{IsNamed, IsNew, declaration_in}
-use Rattle.cv_names.specs.declared.names.NameId.{NameId}
+use Rattle.cv_pool.specs.declared.names.names.NameId.{NameId}
 use Rattle.cv_pool.specs.declared.node.NodeId.{NodeId}
 use Rattle.cv_parse_grammar.specs.Identities.{AreDistinct, is_among}
-use Rattle.cv_parse_signature.specs.declared.heard.Heard.{Heard}
-use Rattle.cv_parse_signature.specs.declared.heard.Heard.TheVariants as heard
-use Rattle.cv_parse_signature.specs.Declares.{is_of_name}
+use Rattle.cv_parse_declarations.specs.declared.signature.heard.Heard.{Heard}
+use Rattle.cv_parse_declarations.specs.declared.signature.heard.Heard.TheVariants as heard
+use Rattle.cv_parse_declarations.specs.signature.Declares.{is_of_name}
 use Rattle.cv_parse.specs.Declaring.{IsNameable, all_decls, decl_of, named_by, names_by, names_of}
 
 -- a declaration is of a name as far as it was heard so

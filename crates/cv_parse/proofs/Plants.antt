@@ -14,7 +14,7 @@ use Rattle.cv_syntax.specs.declared.make.Make.TheVariants as make
 use Rattle.cv_syntax.specs.Planting.{overs}
 use Rattle.cv_syntax.specs.Postorder.{postorder}
 use Rattle.cv_syntax_trees.specs.Tree.{Tree, Empty, Node}
-use Rattle.cv_parse_signature.specs.Declares.{parts_of, tree_in}
+use Rattle.cv_parse_declarations.specs.signature.Declares.{parts_of, tree_in}
 use Rattle.cv_parse_declarations.specs.declared.file.Reading.{Reading}
 use Rattle.cv_parse_grammar.specs.Filled.{filled}
 use Rattle.cv_parse_grammar.specs.Names.{Uses}

@@ -6,7 +6,7 @@ use Rattle.cv_syntax.specs.declared.make.Make.TheVariants.{Over}
 use Rattle.cv_syntax_trees.specs.Declarations.{Declaration}
 use Rattle.cv_syntax.specs.Postorder.{postorder}
 use Rattle.cv_syntax_trees.specs.Tree.{Tree, Empty, Node}
-use Rattle.cv_parse_signature.specs.Declares.{parts_of, tree_in}
+use Rattle.cv_parse_declarations.specs.signature.Declares.{parts_of, tree_in}
 use Rattle.cv_parse.specs.Weights.{declared_weight, part_weight, parts_weight, tree_weight}
 
 pub weight_both : (a b : List Make) → parts_weight (a ++ b) ≡ parts_weight a + parts_weight b

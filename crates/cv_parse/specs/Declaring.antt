@@ -3,12 +3,12 @@ use Rattle.std.specs.Prelude.{◌≡◌, ℕ, ◌<◌, true, false, List, [], �
 use Rattle.cv_syntax.specs.declared.decls.Decl.{Decl}
 use Rattle.cv_syntax.specs.declared.decls.Decl.TheVariants as decl
 use Rattle.cv_syntax_trees.specs.declared.class.Class.TheVariants.{TypeName}
-use Rattle.cv_names.specs.declared.names.NameId.{NameId}
+use Rattle.cv_pool.specs.declared.names.names.NameId.{NameId}
 use Rattle.cv_pool.specs.declared.node.NodeId.{NodeId}
 use Rattle.cv_pool.specs.Nodes.{ChildBelow}
-use Rattle.cv_parse_signature.specs.declared.heard.Heard.{Heard}
-use Rattle.cv_parse_signature.specs.declared.heard.Heard.TheVariants as heard
-use Rattle.cv_parse_signature.specs.Declares.{is_of_name}
+use Rattle.cv_parse_declarations.specs.declared.signature.heard.Heard.{Heard}
+use Rattle.cv_parse_declarations.specs.declared.signature.heard.Heard.TheVariants as heard
+use Rattle.cv_parse_declarations.specs.signature.Declares.{is_of_name}
 
 -- the declaration of `bool`, whose name is number 0
 abbrev pub bool_decl : Decl

@@ -2,7 +2,7 @@
 use Rattle.std.specs.Prelude.{ℕ, ◌+◌, List, [], ◌∷◌}
 use Rattle.cv_syntax_trees.specs.Declarations.{Declaration}
 use Rattle.cv_syntax_trees.specs.Tree.{Tree}
-use Rattle.cv_parse_signature.specs.Declares.{tree_in}
+use Rattle.cv_parse_declarations.specs.signature.Declares.{tree_in}
 use Rattle.cv_parse.specs.Games.{nodes_of}
 
 -- of the trees of declarations

@@ -7,7 +7,7 @@ use Rattle.cv_syntax.specs.declared.make.Make.TheVariants.{Nothing, Over}
 use Rattle.cv_syntax_trees.specs.Declarations.{Declaration}
 use Rattle.cv_syntax_trees.specs.Head.{weight}
 use Rattle.cv_syntax_trees.specs.Tree.{Tree, Empty, Node}
-use Rattle.cv_parse_signature.specs.Declares.{tree_in}
+use Rattle.cv_parse_declarations.specs.signature.Declares.{tree_in}
 
 -- how many names and numbers a node of a file holds
 abbrev pub held : Head → ℕ

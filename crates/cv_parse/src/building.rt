@@ -14,7 +14,7 @@ use crate::declaring::declare_all;
 use crate::error::ParseError;
 use crate::weights::{asked, parts_weight};
 use cv_parse_declarations::Reading;
-use cv_parse_signature::Heard;
+use cv_parse_declarations::signature::Heard;
 use cv_syntax::{BuildError, Class, Decl, Decls, Make, NameId, NodeId, Pool, plant};
 use std::alloc::{AllocError, Global};
 

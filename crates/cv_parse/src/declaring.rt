@@ -3,7 +3,7 @@ ghost use Rattle.std.specs.List.{AllByRecursion};
 ghost use Rattle.cv_parse_grammar.specs.Identities.{AreDistinct};
 ghost use Rattle.cv_parse.specs.Declaring.{IsNameable, all_decls, decl_of as declaration_of, names_by, names_of, or_first as first_of};
 
-use cv_parse_signature::Heard;
+use cv_parse_declarations::signature::Heard;
 use cv_syntax::{Decl, Decls, NameId, NodeId};
 use std::alloc::AllocError;
 

@@ -6,9 +6,9 @@ ghost use Rattle.cv_parse.specs.Games.{process as process_form};
 ghost use Rattle.cv_parse.specs.Terms.{goes_on as goes_on_by};
 ghost use Rattle.cv_parse.specs.Stages.{GivesProcess, GivesTerm};
 
+use cv_parse_declarations::processes::inputs;
 use cv_parse_grammar::{Region, Role};
 use cv_parse_notation::{Mark, Sign};
-use cv_parse_processes::inputs;
 use cv_parse_terms::{ReadError, Trail, is_at, note, term};
 
 /// How deep brackets and syntax nodes may stand.

@@ -6,8 +6,8 @@ use Rattle.cv_parse_notation.specs.Reads.{Reader, pick}
 use Rattle.cv_parse_grammar.specs.declared.role.Role.{Role}
 use Rattle.cv_parse_terms.specs.declared.lookahead.ReadError.{ReadError}
 use Rattle.cv_parse_terms.specs.declared.trail.Trail.{Trail}
-use Rattle.cv_parse_signature.specs.declared.heard.Heard.{Heard}
-use Rattle.cv_parse_signature.specs.Declares.{Declares}
+use Rattle.cv_parse_declarations.specs.declared.signature.heard.Heard.{Heard}
+use Rattle.cv_parse_declarations.specs.signature.Declares.{Declares}
 
 pub declares_first : (all : List Sign) (old new : Trail) (g h : List Heard) (r : Result ℕ ReadError) (b : Bool) (p q : Reader Role (List Declaration)) (ts : List Sign) → b ≡ true → Declares all old new g h r (p ts) → Declares all old new g h r (pick b p q ts)
 declares_first all old new g h r true p q ts e d = d

@@ -18,11 +18,11 @@ use Rattle.cv_parse_terms.specs.Gives.{Fails, read_in}
 use Rattle.cv_parse_terms.specs.Tables.{Stops, last_name, row_in, waits, work_of}
 use Rattle.cv_parse_terms.specs.TermRows.{EntersWith, row_count, term_rows}
 use Rattle.cv_parse_terms.proofs.Saying.{grows}
-use Rattle.cv_parse_signature.specs.declared.heard.Heard.{Heard}
-use Rattle.cv_parse_signature.specs.declared.heard.Heard.TheVariants as heard
-use Rattle.cv_parse_signature.specs.Declares.{IsDeclared}
-use Rattle.cv_parse_signature.proofs.Declaring.{Told, not_told, told}
-use Rattle.cv_parse_signature.proofs.Listed.{is_there, one_made}
+use Rattle.cv_parse_declarations.specs.declared.signature.heard.Heard.{Heard}
+use Rattle.cv_parse_declarations.specs.declared.signature.heard.Heard.TheVariants as heard
+use Rattle.cv_parse_declarations.specs.signature.Declares.{IsDeclared}
+use Rattle.cv_parse_declarations.proofs.signature.Declaring.{Told, not_told, told}
+use Rattle.cv_parse_declarations.proofs.signature.Listed.{is_there, one_made}
 use Rattle.cv_parse_declarations.proofs.Says.{says_equivalence}
 
 abbrev hear : List ℕ → List Heard

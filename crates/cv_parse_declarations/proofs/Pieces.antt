@@ -14,7 +14,7 @@ use Rattle.cv_parse_terms.specs.Gives.{below, read_in}
 use Rattle.cv_parse_terms.proofs.Levels.{below_is}
 use Rattle.cv_parse_terms.proofs.Places.{past_end, plain_read}
 use Rattle.cv_parse_terms.proofs.Rows.{SoFar, many_begins, many_done, many_goes, read_grows}
-use Rattle.cv_parse_signature.proofs.Listed.{plain_of}
+use Rattle.cv_parse_declarations.proofs.signature.Listed.{plain_of}
 use Rattle.cv_parse_declarations.specs.Blocks.{IsPassed, PassesTree, piece}
 
 -- how a piece begins

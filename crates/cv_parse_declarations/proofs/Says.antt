@@ -26,8 +26,8 @@ use Rattle.cv_parse_terms.specs.Tables.{Parts, again, before, bounds, bounds_hea
 use Rattle.cv_parse_terms.specs.TermRows.{row_of}
 use Rattle.cv_parse_terms.proofs.Saying.{IsBelow, Says, before_behind, between, binders_close, both_says, both_wait, bounds_behind, chain_closes, deeper_says, either_says, grows, head_behind, item_waits, level_says, list_says, made_says, many_says, may_says, none_below, pair_behind, part_behind, row_says, same_says, sign_before, sign_behind, value_behind, word_says}
 use Rattle.cv_parse_terms.proofs.TermSays.{one_below, says_local, says_local_list, with_makes}
-use Rattle.cv_parse_processes.proofs.Says.{closes_both, closes_one, deep_runs, says_body}
-use Rattle.cv_parse_signature.proofs.Says.{inside_says}
+use Rattle.cv_parse_declarations.proofs.processes.Says.{closes_both, closes_one, deep_runs, says_body}
+use Rattle.cv_parse_declarations.proofs.signature.Says.{inside_says}
 
 -- four numbers wait: two names, whether they are an index and its bound, and how many empty trees stand before a body
 

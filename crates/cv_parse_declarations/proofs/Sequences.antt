@@ -9,12 +9,12 @@ use Rattle.cv_parse_notation.specs.Form.{many}
 use Rattle.cv_parse_notation.specs.Spells.{next_is, starts}
 use Rattle.cv_parse_notation.specs.Reads.{Read}
 use Rattle.cv_parse_grammar.specs.declared.role.Role.{Role}
-use Rattle.cv_parse_signature.specs.declared.heard.Heard.{Heard}
+use Rattle.cv_parse_declarations.specs.declared.signature.heard.Heard.{Heard}
 use Rattle.cv_parse_terms.specs.declared.trail.Trail.{Trail}
 use Rattle.cv_parse_grammar.specs.Rules.{heads}
 use Rattle.cv_parse_grammar.specs.Declarations.{declaration}
 use Rattle.cv_parse_terms.specs.Gives.{read_in}
-use Rattle.cv_parse_signature.specs.Declares.{IsDeclared, IsWhole, heard_of, parts_of}
+use Rattle.cv_parse_declarations.specs.signature.Declares.{IsDeclared, IsWhole, heard_of, parts_of}
 use Rattle.cv_parse_declarations.specs.Sequences.{AreDeclared, joined}
 use Rattle.cv_parse_terms.proofs.Rows.{SoFar, many_begins, many_goes, many_done, read_grows}
 

@@ -24,8 +24,8 @@ use Rattle.cv_parse_terms.specs.declared.trail.Trail.{Trail}
 use Rattle.cv_parse_terms.specs.declared.lookahead.ReadError.TheVariants as error
 use Rattle.cv_parse_terms.specs.Gives.{Fails, IsMade, IsRead, read_in, uses_of}
 use Rattle.cv_parse_terms.proofs.Chains.{both_read, made_read}
-use Rattle.cv_parse_signature.specs.declared.heard.Heard.{Heard}
-use Rattle.cv_parse_signature.specs.Declares.{heard_of, parts_of}
+use Rattle.cv_parse_declarations.specs.declared.signature.heard.Heard.{Heard}
+use Rattle.cv_parse_declarations.specs.signature.Declares.{heard_of, parts_of}
 use Rattle.cv_parse_declarations.specs.Sequences.{AreDeclared, joined}
 use Rattle.cv_parse_declarations.specs.declared.file.Reading.{Reading}
 use Rattle.cv_parse_declarations.specs.Files.{IsReading}

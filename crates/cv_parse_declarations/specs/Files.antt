@@ -10,7 +10,7 @@ use Rattle.cv_parse_grammar.specs.Rules.{File}
 use Rattle.cv_parse_grammar.specs.Whole.{built_in}
 use Rattle.cv_parse_terms.specs.declared.lookahead.ReadError.{ReadError}
 use Rattle.cv_parse_terms.specs.Gives.{Fails, uses_of}
-use Rattle.cv_parse_signature.specs.Declares.{IsWhole, heard_of, parts_of}
+use Rattle.cv_parse_declarations.specs.signature.Declares.{IsWhole, heard_of, parts_of}
 use Rattle.cv_parse_declarations.specs.declared.file.Reading.{Reading}
 
 -- What was heard of these declarations, and the parts of their trees.

@@ -8,8 +8,8 @@ use Rattle.cv_parse_grammar.specs.declared.role.Role.{Role}
 use Rattle.cv_parse_terms.specs.declared.trail.Trail.{Trail}
 use Rattle.cv_parse_terms.specs.declared.lookahead.ReadError.{ReadError}
 use Rattle.cv_parse_terms.specs.Gives.{Fails, IsRead}
-use Rattle.cv_parse_signature.specs.declared.heard.Heard.{Heard}
-use Rattle.cv_parse_signature.specs.Declares.{IsWhole, heard_of, parts_of}
+use Rattle.cv_parse_declarations.specs.declared.signature.heard.Heard.{Heard}
+use Rattle.cv_parse_declarations.specs.signature.Declares.{IsWhole, heard_of, parts_of}
 
 abbrev pub joined : List (List Declaration) → List Declaration
 joined l = flat_map (λ ds. ds) l

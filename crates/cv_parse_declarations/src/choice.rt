@@ -4,13 +4,13 @@ ghost use Rattle.cv_parse_notation.specs.Spells.{next_is, starts};
 ghost use Rattle.cv_parse_grammar.specs.Rules.{heads};
 ghost use Rattle.cv_parse_grammar.specs.Declarations.{collision_decl as collision_form, declaration as declaration_form};
 ghost use Rattle.cv_parse_terms.specs.Gives.{read_in};
-ghost use Rattle.cv_parse_signature.specs.Declares.{Declares};
+ghost use Rattle.cv_parse_declarations.specs.signature.Declares.{Declares};
 ghost use Rattle.cv_parse_declarations.specs.Sequences.{DeclareAll};
 ghost use Rattle.cv_parse_declarations.specs.Choices.{ending, middle};
 
 use crate::equivalences::equiv_decl;
+use crate::signature::{DeclarationKind, Heard, collision_decl, declare};
 use cv_parse_notation::{Mark, Sign};
-use cv_parse_signature::{DeclarationKind, Heard, collision_decl, declare};
 use cv_parse_terms::{ReadError, Trail, is_at, is_unnamed_at};
 use std::alloc::Global;
 

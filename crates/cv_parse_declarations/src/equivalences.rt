@@ -1,10 +1,10 @@
 ghost use Rattle.std.specs.Prelude.{◌<◌, ◌≤◌, ◌^◌, drop, length};
 ghost use Rattle.cv_parse_grammar.specs.Declarations.{equiv_decl as equiv_form};
 ghost use Rattle.cv_parse_terms.specs.Gives.{read_in};
-ghost use Rattle.cv_parse_signature.specs.Declares.{Declares};
+ghost use Rattle.cv_parse_declarations.specs.signature.Declares.{Declares};
 
+use crate::signature::Heard;
 use cv_parse_notation::Sign;
-use cv_parse_signature::Heard;
 use cv_parse_terms::{ReadError, Trail, enter_with_names, short, taken};
 
 /// A declaration of an equivalence.

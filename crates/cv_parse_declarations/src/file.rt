@@ -10,10 +10,10 @@ ghost use Rattle.cv_parse_declarations.specs.Files.{GivesFile};
 
 use crate::blocks::maybe_proof;
 use crate::decls;
+use crate::processes::inputs;
+use crate::signature::Heard;
 use cv_parse_grammar::{Asked, Region, Role};
 use cv_parse_notation::{Mark, Sign};
-use cv_parse_processes::inputs;
-use cv_parse_signature::Heard;
 use cv_parse_terms::{NameUse, ReadError, Trail, expect, note};
 use cv_syntax::Make;
 use std::alloc::Global;

@@ -6,6 +6,8 @@ mod blocks;
 mod choice;
 mod equivalences;
 mod file;
+pub mod processes;
+pub mod signature;
 
 pub use choice::{begins_decl, decls};
 pub use file::{Reading, read};

@@ -17,17 +17,17 @@ use Rattle.cv_parse.specs.Parsed.{Parsed, bool_type, parsed}
 use Rattle.cv_parse.proofs.Exactness.{said_is_saying}
 use Rattle.cv_meaning.specs.Interpretation.{is_constant_of}
 use Rattle.cv_meaning_laws.proofs.Listed.{Has}
-use Rattle.cv_typing_rules.specs.declared.fault.Fault.TheVariants.{WrongType, Arity}
-use Rattle.cv_typing_rules.specs.declared.precedence.Precedence.TheVariants.{First}
+use Rattle.cv_scope_rules.specs.declared.typing.fault.Fault.TheVariants.{WrongType, Arity}
+use Rattle.cv_scope_rules.specs.declared.typing.precedence.Precedence.TheVariants.{First}
 use Rattle.cv_directory_sorts.specs.declared.sort.Sort.{Sort}
 use Rattle.cv_directory_sorts.specs.declared.sort.Sort.TheVariants.{OfType}
 use Rattle.cv_directory_sorts.specs.Sites.{first_of}
-use Rattle.cv_typing_rules.specs.Parts.{AreTyped, IsTypedFile, Part, declaration_parts, game_part, local_names, nothing_above}
-use Rattle.cv_typing_rules.specs.Signature.{Above, Function, OfNothing, Signature, arity_by, boolean, function_by, function_in, is_arity, names_in, sort_by}
+use Rattle.cv_scope_rules.specs.typing.Parts.{AreTyped, IsTypedFile, Part, declaration_parts, game_part, local_names, nothing_above}
+use Rattle.cv_scope_rules.specs.typing.Signature.{Above, Function, OfNothing, Signature, arity_by, boolean, function_by, function_in, is_arity, names_in, sort_by}
 use Rattle.cv_directory_sorts.specs.Counting.{count}
-use Rattle.cv_typing_rules.specs.Typing.{IsTyped, fault_of, site_differs, value_fault}
-use Rattle.cv_typing_rules.specs.Wants.{Of, Want, all_bound, bound, is_wrong}
-use Rattle.cv_syntax_faults.specs.Walk.{IsObeyed}
+use Rattle.cv_scope_rules.specs.typing.Typing.{IsTyped, fault_of, site_differs, value_fault}
+use Rattle.cv_scope_rules.specs.typing.Wants.{Of, Want, all_bound, bound, is_wrong}
+use Rattle.cv_syntax.specs.faults.Walk.{IsObeyed}
 use Rattle.cv_derive_laws.specs.stores.Truth.{AreOver, HasClosedEquations, IfEquation, IsOver, is_name_of}
 use Rattle.cv_parse_laws.proofs.roles.Constants.{is_constant, kind_of, only_declaration}
 use Rattle.cv_parse_laws.proofs.roles.Declared.{Used, function_declared}

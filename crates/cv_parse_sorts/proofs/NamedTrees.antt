@@ -10,7 +10,7 @@ use Rattle.cv_parse_grammar.specs.Filled.{filled_at, now_below, on_channel, read
 use Rattle.cv_scope_rules.specs.Context.{first_position, second_position}
 use Rattle.cv_scope_rules.specs.declared.position.Position.{Position}
 use Rattle.cv_scope_rules.specs.declared.position.Position.TheVariants.{Anywhere, Bodies, Branches, Cells, Guards}
-use Rattle.cv_typing_rules.specs.Signature.{function_in}
+use Rattle.cv_scope_rules.specs.typing.Signature.{function_in}
 use Rattle.cv_typing_runs.specs.Games.{are_named, are_variable_cells, is_named, is_variable_cell}
 
 module _ (F V : ℕ → Type 0) where

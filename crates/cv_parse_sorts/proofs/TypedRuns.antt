@@ -7,7 +7,7 @@ use Rattle.cv_meaning.specs.Interpretation.{Interpretation}
 use Rattle.cv_meaning.specs.Runs.{Adversary, Mode}
 use Rattle.cv_meaning.specs.Satisfies.{Satisfies}
 use Rattle.cv_scope_rules.specs.Scope.{IsScoped}
-use Rattle.cv_typing_rules.specs.Parts.{AreTyped, IsTypedFile, IsTypedPart, Part, declaration_parts, game_part}
+use Rattle.cv_scope_rules.specs.typing.Parts.{AreTyped, IsTypedFile, IsTypedPart, Part, declaration_parts, game_part}
 use Rattle.cv_typing_runs.specs.Games.{HasTypedRuns}
 use Rattle.cv_typing_runs.proofs.Games.{known, typed_runs as runs}
 use Rattle.cv_parse_laws.proofs.Games.{well_formed}

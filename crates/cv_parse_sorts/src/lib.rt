@@ -17,7 +17,7 @@ ghost use Rattle.cv_meaning.specs.Interpretation.{Interpretation};
 ghost use Rattle.cv_meaning.specs.Runs.{Adversary, Mode};
 ghost use Rattle.cv_meaning.specs.Satisfies.{Satisfies};
 ghost use Rattle.cv_scope_rules.specs.Scope.{IsScoped};
-ghost use Rattle.cv_typing_rules.specs.Parts.{IsTypedFile};
+ghost use Rattle.cv_scope_rules.specs.typing.Parts.{IsTypedFile};
 ghost use Rattle.cv_derive_laws.specs.stores.Truth.{HasClosedEquations};
 ghost use Rattle.cv_typing_runs.specs.Games.{HasNamedFunctionsAndCells, HasTypedRuns};
 

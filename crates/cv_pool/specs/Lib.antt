@@ -4,3 +4,4 @@ pub mod Inside
 pub mod KindTree
 pub mod Nodes
 pub mod PoolView
+pub mod names

@@ -3,6 +3,7 @@
 
 mod bucket;
 mod chains;
+pub mod names;
 mod node;
 mod numbers;
 mod pool;

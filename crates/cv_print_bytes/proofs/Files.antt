@@ -11,7 +11,7 @@ use Rattle.cv_lex.specs.Lexis.{Token, IsToken, has_front, symbols, longest, end_
 use Rattle.cv_lex.specs.View.{AreTokens}
 use Rattle.cv_parse_notation.specs.declared.sign.Mark.{Mark}
 use Rattle.cv_parse_notation.specs.declared.sign.Mark.TheVariants as mark
-use Rattle.cv_names.specs.Texts.{NoRepeat}
+use Rattle.cv_pool.specs.names.Texts.{NoRepeat}
 use Rattle.cv_parse_tables.specs.terminals.ScriptSigns.{between, script_signs}
 use Rattle.cv_parse_tables.specs.spelling.Spelling.{spelling, mark_of_text}
 use Rattle.cv_parse_tables.specs.terminals.Signs.{Step, no_counts, with_name, is_unnamed, word_step, text_step, token_step, unnamed_step, step_before, unnamed_name, first_text, signs_from, signs_of}

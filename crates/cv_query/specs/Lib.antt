@@ -1,3 +1,4 @@
 pub mod Countable
 pub mod Claimed
 pub mod offences
+pub mod kinds

@@ -3,6 +3,7 @@
 
 mod claims;
 mod ends;
+pub mod kinds;
 pub mod offences;
 mod right;
 mod secrets;

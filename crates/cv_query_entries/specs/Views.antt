@@ -9,7 +9,7 @@ use Rattle.cv_directory.specs.Definitions.{entries_of, large_in}
 use Rattle.cv_directory_sorts.specs.Sites.{sites_of}
 use Rattle.cv_directory.specs.Tables.{entries_in}
 use Rattle.cv_directory.specs.Live.{IsLive}
-use Rattle.cv_typing_rules.specs.Signature.{OfGame}
+use Rattle.cv_scope_rules.specs.typing.Signature.{OfGame}
 use Rattle.cv_typing.specs.Tables.{arrays_of, directory_in}
 use Rattle.cv_scope_rules.specs.Phrases.{IsWellFormed}
 use Rattle.cv_meaning.specs.Correspondences.{Correspondence, atoms_of, leaf_names}

@@ -14,8 +14,8 @@ use Rattle.cv_lex.specs.declared.LexError.{LexError}
 use Rattle.cv_lex.specs.declared.LexError.TheVariants as lex
 use Rattle.cv_parse.specs.declared.error.ParseError.{ParseError}
 use Rattle.cv_parse.specs.declared.error.ParseError.TheVariants as parse
-use Rattle.cv_typing_rules.specs.declared.fault.TypeFault.{TypeFault}
-use Rattle.cv_typing_rules.specs.declared.fault.TypeFault.TheVariants as type
+use Rattle.cv_scope_rules.specs.declared.typing.fault.TypeFault.{TypeFault}
+use Rattle.cv_scope_rules.specs.declared.typing.fault.TypeFault.TheVariants as type
 use Rattle.cv_group.specs.declared.fault.GroupFault.{GroupFault}
 use Rattle.cv_group.specs.declared.fault.GroupFault.TheVariants as group
 use Rattle.cv_scope_rules.specs.declared.fault.ScopeFault.{ScopeFault}

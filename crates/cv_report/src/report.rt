@@ -7,9 +7,9 @@ use cv_group::GroupFault;
 use cv_lex::LexError;
 use cv_parse::ParseError;
 use cv_scope_rules::ScopeFault;
+use cv_scope_rules::typing::TypeFault;
 use cv_script::Step;
 use cv_syntax::{File, Game, Work};
-use cv_typing_rules::TypeFault;
 
 /// What the words ask for.
 #[derive(Clone, Copy, Debug, PartialEq, Eq)]

@@ -11,9 +11,9 @@ use cv_lex::LexError;
 use cv_parse::ParseError;
 use cv_print::{push_decimal, push_game};
 use cv_scope_rules::ScopeFault;
+use cv_scope_rules::typing::TypeFault;
 use cv_script::push_step;
 use cv_syntax::{File, Game, Names, Pool};
-use cv_typing_rules::TypeFault;
 use std::alloc::{AllocError, Global};
 
 /// Appends the cost of a step.

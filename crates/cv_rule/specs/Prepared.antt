@@ -10,7 +10,7 @@ use Rattle.cv_directory.specs.Definitions.{entries_of, large_in}
 use Rattle.cv_directory_sorts.specs.Sites.{sites_of}
 use Rattle.cv_directory.specs.Tables.{entries_in}
 use Rattle.cv_typing.specs.declared.arrays.Arrays.{Arrays}
-use Rattle.cv_typing_rules.specs.Signature.{OfGame}
+use Rattle.cv_scope_rules.specs.typing.Signature.{OfGame}
 use Rattle.cv_typing.specs.Tables.{arrays_of, directory_in}
 use Rattle.cv_scope_rules.specs.Phrases.{IsWellFormed}
 

@@ -2,12 +2,12 @@
 use Rattle.std.proofs.Common.{◌≡◌, refl}
 use Rattle.std.specs.List.{AllByRecursion}
 use Rattle.cv_syntax_trees.specs.Tree.{size, depth, same_tree}
-use Rattle.cv_syntax_faults.specs.Walk.{first_fault}
+use Rattle.cv_syntax.specs.faults.Walk.{first_fault}
 use Rattle.cv_meaning.specs.Queries.{queries_in}
 use Rattle.cv_directory_sorts.specs.Sites.{first_index, first_site, bound_sort, is_untyped_in}
 use Rattle.cv_directory_sorts.specs.Counting.{count}
-use Rattle.cv_typing_rules.specs.Parts.{first_in}
-use Rattle.cv_typing_rules.specs.Typing.{binders_differ}
+use Rattle.cv_scope_rules.specs.typing.Parts.{first_in}
+use Rattle.cv_scope_rules.specs.typing.Typing.{binders_differ}
 use Rattle.cv_scope_rules.specs.Behind.{sites_in}
 use Rattle.cv_scope_rules.specs.Sites.{sites_from}
 use Rattle.cv_scope_rules.specs.Made.{is_bound}

@@ -2,7 +2,7 @@
 use Rattle.std.proofs.Common.{◌≡◌, ℕ, ◌+◌, Bool, true, false, cond, sym, ap, ◌∙◌}
 use Rattle.cv_syntax_trees.specs.declared.head.Head.{Head}
 use Rattle.cv_syntax_trees.specs.Tree.{Tree, Empty, Node, first_place, second_place}
-use Rattle.cv_steps_wording.specs.Changing.{changed_at, is_changed}
+use Rattle.cv_costs.specs.wording.Changing.{changed_at, is_changed}
 use Rattle.cv_rule_birthday.specs.Comparing.{compared}
 use Rattle.cv_rule_birthday.specs.Needs.{made_of_changed, made_of_compared}
 

@@ -8,7 +8,7 @@ use Rattle.cv_bound.specs.Sums.{coefficients, terms_of}
 use Rattle.cv_steps.specs.Costs.{cost_of}
 use Rattle.cv_steps.specs.Steps.{Cost, Leads}
 use Rattle.cv_costs.specs.Collisions.{one_for_pairs}
-use Rattle.cv_steps_wording.specs.Changing.{changed_at}
+use Rattle.cv_costs.specs.wording.Changing.{changed_at}
 use Rattle.cv_edit_places.specs.Parts.{AreLive, made_by, stack_of, top_of}
 use Rattle.cv_edit_places.specs.Plans.{IsCostly, IsPricedChange, failed, failing}
 use Rattle.cv_edit_places.specs.declared.change.Change.TheVariants.{Built}

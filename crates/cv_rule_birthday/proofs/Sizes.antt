@@ -11,7 +11,7 @@ use Rattle.cv_scope_rules.specs.Context.{items}
 use Rattle.cv_scope_rules.specs.Phrases.{Phrase, Inputs, Nil, Term, Terms, is_phrase, parts}
 use Rattle.cv_steps.proofs.Flat.{open_phrase}
 use Rattle.cv_edit_places.specs.Parts.{total_of}
-use Rattle.cv_steps_wording.specs.Changing.{changed_at, is_changed}
+use Rattle.cv_costs.specs.wording.Changing.{changed_at, is_changed}
 use Rattle.cv_rule_birthday.specs.Comparing.{compared, same_indices}
 
 -- equations between two lists

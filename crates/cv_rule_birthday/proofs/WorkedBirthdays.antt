@@ -4,12 +4,12 @@ use Rattle.std.specs.List.{AllByRecursion}
 use Rattle.cv_syntax_trees.specs.declared.head.Head.TheVariants.{Eq}
 use Rattle.cv_syntax_trees.specs.Builders.{leaf}
 use Rattle.cv_syntax_trees.specs.Tree.{Tree, Node, size, depth, subtree, same_tree}
-use Rattle.cv_syntax_faults.specs.Walk.{first_fault}
+use Rattle.cv_syntax.specs.faults.Walk.{first_fault}
 use Rattle.cv_directory_sorts.specs.Sites.{first_index, first_site, bound_sort, is_untyped_in}
 use Rattle.cv_directory_sorts.specs.Counting.{count}
 use Rattle.cv_derive_rules.specs.Truths.{yes}
-use Rattle.cv_typing_rules.specs.Parts.{first_in}
-use Rattle.cv_typing_rules.specs.Typing.{binders_differ}
+use Rattle.cv_scope_rules.specs.typing.Parts.{first_in}
+use Rattle.cv_scope_rules.specs.typing.Typing.{binders_differ}
 use Rattle.cv_scope_rules.specs.Context.{context_at}
 use Rattle.cv_scope_rules.specs.Sites.{sites_from}
 use Rattle.cv_scope_rules.specs.Made.{is_bound}
@@ -20,7 +20,7 @@ use Rattle.cv_costs.specs.Factors.{with_parameter}
 use Rattle.cv_costs.specs.Large.{first_other_site}
 use Rattle.cv_steps.specs.Rewriting.{has_term_at}
 use Rattle.cv_steps.specs.Judgements.{Accepted, Judgement, Refused, judgement_of}
-use Rattle.cv_steps_wording.specs.Changing.{changed_at}
+use Rattle.cv_costs.specs.wording.Changing.{changed_at}
 use Rattle.cv_rule_birthday.specs.Row.{birthday_step}
 use Rattle.cv_rule_birthday.specs.Worked.{alone, at, birthdays, received, repeats, same_again, same_cells, scene_of, single, squared}
 

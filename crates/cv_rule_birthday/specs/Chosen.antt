@@ -5,7 +5,7 @@ use Rattle.cv_syntax_trees.specs.Tree.{Tree}
 use Rattle.cv_scene.specs.Scenes.{Scene}
 use Rattle.cv_steps.specs.Steps.{Leads}
 use Rattle.cv_costs.specs.Collisions.{one_for_pairs}
-use Rattle.cv_steps_wording.specs.Changing.{changed_at}
+use Rattle.cv_costs.specs.wording.Changing.{changed_at}
 use Rattle.cv_edit_places.specs.Plans.{failing}
 use Rattle.cv_edit_places.specs.declared.plan.Failure.{Failure}
 use Rattle.cv_rule_birthday.specs.Comparing.{compared, is_one_of}

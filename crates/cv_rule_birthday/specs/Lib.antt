@@ -3,3 +3,4 @@ pub mod Row
 pub mod Needs
 pub mod Chosen
 pub mod Worked
+pub mod guess

@@ -3,7 +3,7 @@ use Rattle.std.specs.Prelude.{ℕ, ◌+◌, Bool, if◌then◌else◌, List, [],
 use Rattle.cv_syntax_trees.specs.declared.head.Head.TheVariants.{Eq}
 use Rattle.cv_syntax_trees.specs.Tree.{Tree, Empty, Node, first, first_place, second_place}
 use Rattle.cv_scope_rules.specs.Context.{items}
-use Rattle.cv_steps_wording.specs.Changing.{is_changed}
+use Rattle.cv_costs.specs.wording.Changing.{is_changed}
 use Rattle.cv_edit_places.specs.Changes.{need_at}
 use Rattle.cv_rule_birthday.specs.Comparing.{is_one_of}
 

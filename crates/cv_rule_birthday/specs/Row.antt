@@ -10,7 +10,7 @@ use Rattle.cv_steps.specs.Rows.{unless, unless_at}
 use Rattle.cv_steps.specs.Steps.{Fails, Leads, Row, Step}
 use Rattle.cv_costs.specs.Collisions.{one_for_pairs}
 use Rattle.cv_costs.specs.Large.{are_increasing, first_other_site, is_large}
-use Rattle.cv_steps_wording.specs.Changing.{changed_at}
+use Rattle.cv_costs.specs.wording.Changing.{changed_at}
 use Rattle.cv_rule_birthday.specs.Comparing.{compared, first_uncompared, is_one_of}
 
 -- the type of a variable

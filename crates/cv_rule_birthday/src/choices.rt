@@ -3,7 +3,7 @@ ghost use Rattle.cv_syntax_trees.specs.Tree.{size};
 ghost use Rattle.cv_syntax.specs.PoolTrees.{tree_at};
 ghost use Rattle.cv_directory_sorts.specs.Sites.{sites_of};
 ghost use Rattle.cv_typing.specs.Tables.{arrays_of};
-ghost use Rattle.cv_typing_rules.specs.Signature.{OfGame, variable_in};
+ghost use Rattle.cv_scope_rules.specs.typing.Signature.{OfGame, variable_in};
 ghost use Rattle.cv_scene_view.specs.Kept.{scene_of};
 ghost use Rattle.cv_edit_places.specs.Plans as plans;
 ghost use Rattle.cv_rule_birthday.specs.Chosen.{IsChosen, parameters_by};

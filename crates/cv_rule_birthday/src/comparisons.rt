@@ -4,7 +4,7 @@ ghost use Rattle.cv_syntax_trees.specs.Tree.{size};
 ghost use Rattle.cv_syntax.specs.PoolTrees.{tree_at};
 ghost use Rattle.cv_directory_sorts.specs.Sites.{sites_of};
 ghost use Rattle.cv_typing.specs.Tables.{arrays_of};
-ghost use Rattle.cv_typing_rules.specs.Signature.{OfGame};
+ghost use Rattle.cv_scope_rules.specs.typing.Signature.{OfGame};
 ghost use Rattle.cv_scene.specs.Instances.{is_read_of};
 ghost use Rattle.cv_scene.specs.Sights.{variable_of};
 ghost use Rattle.cv_rule_birthday.specs.Comparing as comparing;

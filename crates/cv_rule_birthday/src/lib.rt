@@ -5,6 +5,7 @@ mod changing;
 mod choices;
 mod comparisons;
 mod equations;
+pub mod guess;
 mod planning;
 
 ghost use Rattle.std.specs.Prelude.{◌≡◌};

@@ -22,13 +22,13 @@ use Rattle.cv_scope_runs.proofs.FactsRuns.{well_game}
 use Rattle.cv_scope_runs.proofs.Games.{Game, stands_phrase}
 use Rattle.cv_scope_runs.proofs.Plain.{game_context}
 use Rattle.cv_scope_runs.proofs.Standing.{root}
-use Rattle.cv_typing_rules.specs.Parts.{IsTypedGame}
+use Rattle.cv_scope_rules.specs.typing.Parts.{IsTypedGame}
 use Rattle.cv_scene.specs.Scenes.{has_news_alone, part_at}
 use Rattle.cv_scene.specs.Terms.{has_site}
 use Rattle.cv_steps.specs.Rewriting.{has_term_at}
-use Rattle.cv_steps_wording.specs.Changing.{AreTermsAt, changed_at}
-use Rattle.cv_steps_wording.specs.Facts.{HoldsIn, IsOfArray, KeepsValues}
-use Rattle.cv_steps_wording.proofs.Chances.{distance_within}
+use Rattle.cv_costs.specs.wording.Changing.{AreTermsAt, changed_at}
+use Rattle.cv_costs.specs.wording.Facts.{HoldsIn, IsOfArray, KeepsValues}
+use Rattle.cv_costs.proofs.wording.Chances.{distance_within}
 use Rattle.cv_rule_fresh.proofs.Standing.{There, there}
 use Rattle.cv_costs.specs.Large.{first_other_site}
 use Rattle.cv_rule_birthday.specs.Comparing.{compared, first_uncompared, is_comparison, is_one_of}

@@ -14,8 +14,8 @@ use Rattle.cv_steps.proofs.Flat.{Opened, is_of_terms, open_phrase}
 use Rattle.cv_steps.proofs.Places.{bare, is_bare}
 use Rattle.cv_steps_laws.proofs.Indices.{Lacks, lacking_empty, lacking_node, lacking_parts}
 use Rattle.cv_steps_laws.proofs.Unletted.{IsKept, has_names}
-use Rattle.cv_steps_wording.specs.Changing.{changed_at, is_changed}
-use Rattle.cv_steps_wording.proofs.Places.{AreAt, at_first, at_second, kept_bare, kept_node}
+use Rattle.cv_costs.specs.wording.Changing.{changed_at, is_changed}
+use Rattle.cv_costs.proofs.wording.Places.{AreAt, at_first, at_second, kept_bare, kept_node}
 use Rattle.cv_rule_birthday.specs.Comparing.{compared, same_indices}
 
 -- phrases

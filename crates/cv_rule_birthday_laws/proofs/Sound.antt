@@ -10,13 +10,13 @@ use Rattle.cv_meaning.specs.Interpretation.{Interpretation, setting_of}
 use Rattle.cv_meaning.specs.Satisfies.{Satisfies}
 use Rattle.cv_meaning_chances.specs.Fractions.{HasTapes}
 use Rattle.cv_meaning_chances.specs.values.Values.{HasValuesIn}
-use Rattle.cv_bound_values.specs.Values.{product_value}
+use Rattle.cv_steps.specs.values.Values.{product_value}
 use Rattle.cv_directory_sorts.specs.declared.sort.Sort.TheVariants.{OfType}
 use Rattle.cv_directory_sorts.specs.Sites.{Variable as FirstSite, first_site}
 use Rattle.cv_scope_rules.specs.Phrases.{Inputs, IsWellFormed, is_phrase}
 use Rattle.cv_scope_runs.proofs.Standing.{root}
-use Rattle.cv_typing_rules.specs.Parts.{IsTypedGame}
-use Rattle.cv_typing_rules.specs.Signature.{declaration_of}
+use Rattle.cv_scope_rules.specs.typing.Parts.{IsTypedGame}
+use Rattle.cv_scope_rules.specs.typing.Signature.{declaration_of}
 use Rattle.cv_typing_runs.specs.Games.{HasDeclaredSorts}
 use Rattle.cv_scene.specs.Scenes.{Scene, is_type_by, part_at}
 use Rattle.cv_scene.specs.Terms.{has_site, is_game}
@@ -33,8 +33,8 @@ use Rattle.cv_steps_laws.proofs.Keeping.{accepted}
 use Rattle.cv_steps_laws.proofs.Sorts.{sorts_kept}
 use Rattle.cv_steps_laws.proofs.Unletted.{IsKept}
 use Rattle.cv_steps_laws.proofs.Values.{type_value, values_kept}
-use Rattle.cv_steps_wording.specs.Changing.{AreTermsAt, changed_at}
-use Rattle.cv_steps_wording.proofs.Places.{at_root}
+use Rattle.cv_costs.specs.wording.Changing.{AreTermsAt, changed_at}
+use Rattle.cv_costs.proofs.wording.Places.{at_root}
 use Rattle.cv_rule_fresh.specs.collisions.Chances.{copies}
 use Rattle.cv_costs.specs.Large.{first_other_site, is_large, is_large_by}
 use Rattle.cv_rule_birthday.specs.Comparing.{compared, first_uncompared, is_comparison, is_one_of}

@@ -1,1 +1,2 @@
 pub mod chosen
+pub mod guess

@@ -15,9 +15,9 @@ ghost use Rattle.cv_meaning.specs.Runs.{Adversary, Mode};
 ghost use Rattle.cv_meaning.specs.Tapes.{Tape};
 ghost use Rattle.cv_meaning_chances.specs.Tests.{some_equal};
 ghost use Rattle.cv_scope_rules.specs.Phrases.{HasConstantsOf, IsWellFormed};
-ghost use Rattle.cv_typing_rules.specs.Parts.{IsTypedGame};
+ghost use Rattle.cv_scope_rules.specs.typing.Parts.{IsTypedGame};
 ghost use Rattle.cv_scene.specs.Scenes.{has_news_alone};
-ghost use Rattle.cv_steps_wording.specs.Facts.{HoldsIn};
+ghost use Rattle.cv_costs.specs.wording.Facts.{HoldsIn};
 ghost use Rattle.cv_rule_birthday_laws.specs.chosen.Drawn.{AreDrawn, choices_of, pairs_over};
 
 /// In a run of a well-formed game each value of a variable that `new` alone defines is that of its cell on the tape, at indices below

@@ -2,6 +2,7 @@
 #![tactic(auto)]
 
 pub mod chosen;
+pub mod guess;
 
 ghost use Rattle.std.specs.Prelude.{◌≡◌, ℕ, Bool, List, None, Some, []};
 ghost use Rattle.cv_syntax_trees.specs.Declarations.{Declaration};
@@ -14,9 +15,9 @@ ghost use Rattle.cv_meaning.specs.Experiments.{Experiment};
 ghost use Rattle.cv_meaning.specs.Interpretation.{Interpretation, setting_of};
 ghost use Rattle.cv_meaning.specs.Runs.{Adversary};
 ghost use Rattle.cv_scope_rules.specs.Phrases.{IsWellFormed};
-ghost use Rattle.cv_typing_rules.specs.Parts.{IsTypedGame};
+ghost use Rattle.cv_scope_rules.specs.typing.Parts.{IsTypedGame};
 ghost use Rattle.cv_derive_laws.specs.stores.Steps.{IsSound};
-ghost use Rattle.cv_steps_wording.specs.Changing.{changed_at};
+ghost use Rattle.cv_costs.specs.wording.Changing.{changed_at};
 ghost use Rattle.cv_costs.specs.Large.{first_other_site};
 ghost use Rattle.cv_rule_birthday.specs.Comparing.{compared, first_uncompared, is_one_of};
 ghost use Rattle.cv_rule_birthday.specs.Row.{birthday_step};

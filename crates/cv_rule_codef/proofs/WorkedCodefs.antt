@@ -3,13 +3,13 @@ use Rattle.std.proofs.Common.{◌≡◌, true, false, [], ◌∷◌, refl}
 use Rattle.std.specs.List.{AllByRecursion}
 use Rattle.cv_syntax_trees.specs.declared.head.Head.TheVariants.{Eq, Yes, Yield}
 use Rattle.cv_syntax_trees.specs.Tree.{Node, lone, size, depth, subtree, same_tree}
-use Rattle.cv_syntax_faults.specs.Walk.{first_fault}
+use Rattle.cv_syntax.specs.faults.Walk.{first_fault}
 use Rattle.cv_meaning.specs.Replaced.{replaced}
 use Rattle.cv_meaning_runs.specs.Replacement.{if_tree}
 use Rattle.cv_directory_sorts.specs.Sites.{first_index, first_site, bound_sort, is_untyped_in}
 use Rattle.cv_directory_sorts.specs.Counting.{count}
-use Rattle.cv_typing_rules.specs.Parts.{first_in}
-use Rattle.cv_typing_rules.specs.Typing.{binders_differ}
+use Rattle.cv_scope_rules.specs.typing.Parts.{first_in}
+use Rattle.cv_scope_rules.specs.typing.Typing.{binders_differ}
 use Rattle.cv_scope_rules.specs.Context.{context_at}
 use Rattle.cv_scope_rules.specs.Sites.{sites_from}
 use Rattle.cv_scope_rules.specs.Made.{is_bound}

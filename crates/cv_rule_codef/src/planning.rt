@@ -4,7 +4,7 @@ ghost use Rattle.cv_syntax.specs.PoolTrees.{tree_at};
 ghost use Rattle.cv_directory.specs.Live.{IsLive};
 ghost use Rattle.cv_directory_sorts.specs.Sites.{sites_of};
 ghost use Rattle.cv_typing.specs.Tables.{arrays_of};
-ghost use Rattle.cv_typing_rules.specs.Signature.{OfGame};
+ghost use Rattle.cv_scope_rules.specs.typing.Signature.{OfGame};
 ghost use Rattle.cv_scene.specs.Scenes.{part_at};
 ghost use Rattle.cv_scene_view.specs.Kept.{scene_of};
 ghost use Rattle.cv_edit_places.specs.Plans.{IsPlanned, failed, failing};

@@ -28,7 +28,7 @@ use Rattle.cv_meaning_chances.specs.rewording.Rewording.{IsReworded}
 use Rattle.cv_meaning_chances.proofs.rewording.Alike.{holds_reworded}
 use Rattle.cv_meaning_chances.proofs.rewording.SameCells.{same_cells}
 use Rattle.cv_derive_rules.specs.Truths.{no}
-use Rattle.cv_typing_rules.specs.Parts.{IsTypedGame}
+use Rattle.cv_scope_rules.specs.typing.Parts.{IsTypedGame}
 use Rattle.cv_typing_runs.proofs.Games.{restrictions}
 use Rattle.cv_scope_rules.specs.Context.{Context, cell_of, known_at, nothing_known}
 use Rattle.cv_scope_rules.specs.Made.{OwnUnassigned}
@@ -47,14 +47,14 @@ use Rattle.cv_scene.specs.Terms.{replications_at, replications_by}
 use Rattle.cv_steps.specs.Rewriting.{has_term_at}
 use Rattle.cv_steps.proofs.Testable.{local}
 use Rattle.cv_steps.specs.Steps.{Cost, Leads}
-use Rattle.cv_bound_values.specs.Values.{product_value}
+use Rattle.cv_steps.specs.values.Values.{product_value}
 use Rattle.cv_derive_laws.specs.stores.Costs.{CostsAtMost, bound_of}
 use Rattle.cv_costs.specs.Collisions.{declared_parameters, one_for_each}
 use Rattle.cv_costs.specs.Factors.{factors_of}
 use Rattle.cv_costs.proofs.Values.{with_value}
 use Rattle.cv_rule_fresh.specs.collisions.Chances.{copies}
 use Rattle.cv_rule_fresh.specs.collisions.Choices.{Choice, parameters_at}
-use Rattle.cv_rule_names.specs.Reach.{is_in_scope, is_in_scope_by}
+use Rattle.cv_costs.specs.names.Reach.{is_in_scope, is_in_scope_by}
 use Rattle.cv_rule_fresh.specs.collisions.Fresh.{fresh_row}
 use Rattle.cv_rule_fresh.proofs.Branches.{Guess}
 use Rattle.cv_rule_fresh.proofs.Hits.{IsFirst, firsts, value_at, value_ignores, value_when}

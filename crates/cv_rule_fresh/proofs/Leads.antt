@@ -14,7 +14,7 @@ use Rattle.cv_scene.specs.Terms.{has_site, replications_at}
 use Rattle.cv_steps.specs.Rewriting.{has_term_at}
 use Rattle.cv_costs.specs.Large.{is_large}
 use Rattle.cv_rule_fresh.specs.collisions.Choices.{Choice, choice_above, parameters_at}
-use Rattle.cv_rule_names.specs.Reach.{is_in_scope_at}
+use Rattle.cv_costs.specs.names.Reach.{is_in_scope_at}
 use Rattle.cv_rule_fresh.specs.collisions.Equalities.{Equality, cell_variable, current_variable, sides_of}
 use Rattle.cv_steps.specs.Steps.{Cost, Fails, Leads, Row}
 use Rattle.cv_steps.proofs.Rows.{unless_leads}

@@ -26,7 +26,7 @@ use Rattle.cv_scope_runs.proofs.ServeRuns.{VisitHolds}
 use Rattle.cv_scope_runs.proofs.Standing.{Stands, in_first, in_second, stands_known}
 use Rattle.cv_scope_runs.proofs.TermsLater.{Readable, readable_kept, store_extends, value_kept}
 use Rattle.cv_rule_fresh.specs.collisions.Choices.{Choice, choice_above, choice_behind}
-use Rattle.cv_rule_names.specs.Reach.{is_in_scope}
+use Rattle.cv_costs.specs.names.Reach.{is_in_scope}
 use Rattle.cv_rule_fresh.proofs.Scope.{scope_asked}
 use Rattle.cv_rule_fresh.proofs.Standing.{last_of, stands_choice}
 

@@ -20,7 +20,7 @@ use Rattle.cv_edit_places.specs.declared.plan.Priced.{Priced}
 use Rattle.cv_rule_fresh.specs.collisions.Choices as choices
 use Rattle.cv_costs.specs.Large.{is_large}
 use Rattle.cv_rule_fresh.specs.collisions.Choices.{choice_above, parameters_at}
-use Rattle.cv_rule_names.specs.Reach.{is_in_scope_at}
+use Rattle.cv_costs.specs.names.Reach.{is_in_scope_at}
 use Rattle.cv_rule_fresh.specs.collisions.Equalities.{current_variable}
 use Rattle.cv_rule_fresh.specs.collisions.Fresh.{either, fresh_row, fresh_step, row_by_choice, row_by_side, row_by_variable}
 use Rattle.cv_rule_fresh.specs.Looks.{IsChosen, IsFalsity, choice_of, later_failure}

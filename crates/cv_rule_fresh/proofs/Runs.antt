@@ -22,7 +22,7 @@ use Rattle.cv_scope_runs.proofs.Contexts.{game_names}
 use Rattle.cv_scope_runs.proofs.Games.{Game}
 use Rattle.cv_scope_runs.proofs.ServeRuns.{VisitHolds}
 use Rattle.cv_rule_fresh.specs.collisions.Choices.{Choice}
-use Rattle.cv_rule_names.specs.Reach.{is_in_scope}
+use Rattle.cv_costs.specs.names.Reach.{is_in_scope}
 use Rattle.cv_rule_fresh.proofs.Missed.{DrawsAnother, MissesThere, is_inner, serve_misses}
 use Rattle.cv_scope_runs.proofs.FreshRuns.{pairwise_left, pairwise_right}
 use Rattle.cv_lists.proofs.Each.{AllByRecursion_append, AllByRecursion_left, AllByRecursion_right}

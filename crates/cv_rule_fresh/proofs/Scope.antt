@@ -10,7 +10,7 @@ use Rattle.cv_scope_rules.specs.Rules.{Names, ReadsInReach, is_index}
 use Rattle.cv_scope_rules.specs.Tests.{reads_in_reach}
 use Rattle.cv_scope_rules.proofs.Decided.{reach_found}
 use Rattle.cv_scope_runs.proofs.Asked.{Asked}
-use Rattle.cv_rule_names.specs.Reach.{is_in_scope}
+use Rattle.cv_costs.specs.names.Reach.{is_in_scope}
 
 leaf_found : (names : Names) (Γ : Context) (x : ℕ) (a b : Tree) → reads_in_reach names Γ (Leaf x) a b ≡ true → ReadsInReach names Γ (Leaf x) a b
 leaf_found names Γ x a b e =

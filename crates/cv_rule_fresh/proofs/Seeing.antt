@@ -16,7 +16,7 @@ use Rattle.cv_scope_rules.specs.Tests.{is_in_reach}
 use Rattle.cv_derive_rules.specs.Given.{given_for, or_node, with_given}
 use Rattle.cv_derive_reasons.specs.cells.Cells.{defined_second, is_among_under}
 use Rattle.cv_derive_reasons.specs.substitution.Under.{under}
-use Rattle.cv_rule_names.specs.Reach.{is_in_scope, is_in_scope_by}
+use Rattle.cv_costs.specs.names.Reach.{is_in_scope, is_in_scope_by}
 use Rattle.cv_rule_fresh.specs.Looks.{Sees, entered_cells, reads_here}
 use Rattle.cv_rule_fresh.specs.declared.reach.Seen.{Seen}
 

@@ -8,7 +8,7 @@ use Rattle.cv_meaning.specs.Replaced.{replaced}
 use Rattle.cv_meaning.specs.Satisfies.{Satisfies}
 use Rattle.cv_meaning_chances.specs.Fractions.{HasTapes}
 use Rattle.cv_meaning_chances.specs.values.Values.{HasValuesIn}
-use Rattle.cv_typing_rules.specs.Signature.{declaration_of}
+use Rattle.cv_scope_rules.specs.typing.Signature.{declaration_of}
 use Rattle.cv_typing_runs.specs.Games.{HasDeclaredSorts}
 use Rattle.cv_derive_rules.specs.Truths.{no}
 use Rattle.cv_scope_rules.specs.Phrases.{Inputs, Term, is_phrase}

@@ -2,7 +2,7 @@
 ghost use Rattle.std.specs.Prelude.{◌≡◌, ℕ};
 ghost use Rattle.cv_syntax_trees.specs.Tree.{Tree};
 ghost use Rattle.cv_scope_rules.specs.Phrases.{IsWellFormed};
-ghost use Rattle.cv_typing_rules.specs.Parts.{IsTypedGame};
+ghost use Rattle.cv_scope_rules.specs.typing.Parts.{IsTypedGame};
 ghost use Rattle.cv_scene.specs.Scenes.{Scene};
 ghost use Rattle.cv_steps.specs.Steps.{Cost, Leads};
 ghost use Rattle.cv_derive_laws.specs.stores.Costs.{CostsAtMost};

@@ -11,7 +11,7 @@ ghost use Rattle.cv_scope_rules.specs.Tests as tests;
 ghost use Rattle.cv_directory.specs.Live.{IsLive};
 ghost use Rattle.cv_scene_view.specs.Kept.{scene_of};
 ghost use Rattle.cv_derive_reasons.specs.sizes.Sizes.{AreSizes};
-ghost use Rattle.cv_rule_names.specs.Reach as specs;
+ghost use Rattle.cv_costs.specs.names.Reach as specs;
 ghost use Rattle.cv_rule_fresh.specs.Looks.{Sees, entered_cells, reads_here};
 
 use crate::cells::is_cell;

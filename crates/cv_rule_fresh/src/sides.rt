@@ -3,7 +3,7 @@ ghost use Rattle.cv_pool.specs.Nodes.{ChildBelow};
 ghost use Rattle.cv_syntax_trees.specs.Tree.{Tree, size};
 ghost use Rattle.cv_syntax.specs.PoolTrees.{tree_at};
 ghost use Rattle.cv_directory_sorts.specs.Sites.{sites_of};
-ghost use Rattle.cv_typing_rules.specs.Signature.{OfGame};
+ghost use Rattle.cv_scope_rules.specs.typing.Signature.{OfGame};
 ghost use Rattle.cv_typing.specs.Tables.{arrays_of};
 ghost use Rattle.cv_rule_fresh.specs.collisions.Equalities as equalities;
 ghost use Rattle.cv_rule_fresh.specs.Looks.{equality_of};

@@ -5,3 +5,4 @@ pub mod Parts
 pub mod Bodies
 pub mod Plans
 pub mod Worked
+pub mod merge

@@ -16,6 +16,7 @@ ghost use Rattle.cv_rule_move.specs.Steps.{move_step};
 ghost use Rattle.cv_rule_move.specs.Worked.{moves};
 
 mod bodies;
+pub mod merge;
 mod naming;
 mod planning;
 

@@ -9,7 +9,7 @@ use Rattle.cv_syntax_trees.specs.Tree.{Tree, Empty, Node, first_place, same_tree
 use Rattle.cv_directory_sorts.specs.Sites.{first_of}
 use Rattle.cv_path.proofs.Going.{subtree_behind, subtree_here, subtree_within}
 use Rattle.cv_scene.specs.Scenes.{or_empty, part_at}
-use Rattle.cv_rule_names.specs.Naming.{first_naming, is_between, names_one}
+use Rattle.cv_costs.specs.names.Naming.{first_naming, is_between, names_one}
 use Rattle.cv_rule_pick.specs.Looks.{first_elsewhere}
 use Rattle.cv_rule_pick.specs.Picking.{is_inside}
 

@@ -5,7 +5,7 @@ use Rattle.cv_syntax_trees.specs.Tree.{Tree, Empty, Node}
 use Rattle.cv_scope_rules.specs.Context.{Context}
 use Rattle.cv_scope_rules.specs.Rules.{Names}
 use Rattle.cv_scope_rules.specs.Tests.{reads_in_reach}
-use Rattle.cv_rule_names.specs.Reach.{is_in_scope}
+use Rattle.cv_costs.specs.names.Reach.{is_in_scope}
 
 module _ (names : Names) (Γ : Context) (t : Tree) (h : Head) (a b : Tree) (e : t ≡ Node h a b) where
   scope_node : is_in_scope names Γ t ≡ (reads_in_reach names Γ h a b && (is_in_scope names Γ a && is_in_scope names Γ b))

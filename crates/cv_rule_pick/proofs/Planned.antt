@@ -18,7 +18,7 @@ use Rattle.cv_edit_places.specs.Parts.{AreLive, made_by, stack_of, top_of}
 use Rattle.cv_edit_places.specs.Plans.{IsChange, failed, failing, failure_of}
 use Rattle.cv_edit_places.specs.declared.change.Change.TheVariants.{Built}
 use Rattle.cv_edit_places.specs.declared.parts.Parts.{Parts}
-use Rattle.cv_rule_names.specs.Naming.{first_naming, is_one_queried}
+use Rattle.cv_costs.specs.names.Naming.{first_naming, is_one_queried}
 use Rattle.cv_rule_pick.specs.Looks.{arm_of, first_elsewhere, is_passed_by}
 use Rattle.cv_rule_pick.specs.Needs.{made_by_arm, made_of_pick, made_with}
 use Rattle.cv_rule_pick.specs.Picking.{Arm, are_indices_at, are_terms_at, arm_place, behind_arm, body_place, equations, first_listed, guards, guards_with, is_inside, lesser, only_arm, own_cells, with_terms}

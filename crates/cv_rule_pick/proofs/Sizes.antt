@@ -9,13 +9,13 @@ use Rattle.cv_directory_sorts.specs.declared.sort.Sort.TheVariants.{BelowParamet
 use Rattle.cv_scope_rules.specs.Context.{Context, cell_of, cells_of, known_at}
 use Rattle.cv_scope_rules.specs.Phrases.{Term, is_phrase}
 use Rattle.cv_scope_rules.specs.Scope.{names_of}
-use Rattle.cv_typing_rules.specs.Signature.{Function}
+use Rattle.cv_scope_rules.specs.typing.Signature.{Function}
 use Rattle.cv_derive_rules.specs.Given.{or_node}
 use Rattle.cv_path.proofs.extents.Extents.{size_part}
 use Rattle.cv_scene.specs.Scenes.{Scene, or_empty, part_at}
 use Rattle.cv_scene.specs.Terms.{is_sort, is_term_at}
 use Rattle.cv_steps.specs.Rewriting.{sort_at}
-use Rattle.cv_rule_names.specs.Reach.{is_in_scope, is_in_scope_at, is_in_scope_by}
+use Rattle.cv_costs.specs.names.Reach.{is_in_scope, is_in_scope_at, is_in_scope_by}
 use Rattle.cv_rule_pick.specs.Picking.{Arm, are_indices_at, are_terms_at, only_arm, term_of, with_terms}
 use Rattle.cv_rule_pick.proofs.Small.{cell_size, reached_small}
 use Rattle.cv_syntax_trees.specs.Tree.{subtree}

@@ -13,7 +13,7 @@ use Rattle.cv_scope_rules.specs.Rules.{Names}
 use Rattle.cv_scope_rules.specs.Scope.{names_of}
 use Rattle.cv_scene.specs.Scenes.{Scene}
 use Rattle.cv_scene.specs.Terms.{is_term_at, replications_at, replications_by}
-use Rattle.cv_rule_names.specs.Reach.{is_in_scope, is_in_scope_at, is_in_scope_by}
+use Rattle.cv_costs.specs.names.Reach.{is_in_scope, is_in_scope_at, is_in_scope_by}
 use Rattle.cv_rule_pick.specs.Picking.{are_indices_at, are_terms_at}
 
 -- something is known at each place

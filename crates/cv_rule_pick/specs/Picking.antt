@@ -14,8 +14,8 @@ use Rattle.cv_scene.specs.Scenes.{Scene, part_at}
 use Rattle.cv_scene.specs.Sights.{variable_of}
 use Rattle.cv_scene.specs.Terms.{is_sort, is_term_at, replications_at}
 use Rattle.cv_steps.specs.Rewriting.{sort_at}
-use Rattle.cv_rule_names.specs.Reach.{is_in_scope_at}
-use Rattle.cv_rule_names.specs.Naming.{is_between}
+use Rattle.cv_costs.specs.names.Reach.{is_in_scope_at}
+use Rattle.cv_costs.specs.names.Naming.{is_between}
 
 -- the only branch of a `find`
 pub record Arm : Type 0 where

@@ -6,7 +6,7 @@ use Rattle.cv_scene.specs.Scenes.{Scene, has_place, part_at}
 use Rattle.cv_steps.specs.Changes.{change_at}
 use Rattle.cv_steps.specs.Rows.{unless, unless_at, unless_derived}
 use Rattle.cv_steps.specs.Steps.{Fails, Leads, Row, Step, Zero}
-use Rattle.cv_rule_names.specs.Naming.{first_naming, is_one_queried}
+use Rattle.cv_costs.specs.names.Naming.{first_naming, is_one_queried}
 use Rattle.cv_rule_pick.specs.Picking.{Arm, are_indices_at, are_terms_at, arm_place, behind_arm, body_place, equations, first_listed, guards_with, is_inside, lesser, only_arm, own_cells, with_terms}
 
 -- the first place where an index variable is named otherwise than at its site and at current indices in the branch, or is a cell

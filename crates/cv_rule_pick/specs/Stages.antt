@@ -10,7 +10,7 @@ use Rattle.cv_steps.specs.Rows.{unless, unless_at, unless_derived}
 use Rattle.cv_steps.specs.Steps.{Row}
 use Rattle.cv_edit_places.specs.Plans.{failing}
 use Rattle.cv_edit_places.specs.declared.plan.Failure.{Failure}
-use Rattle.cv_rule_names.specs.Naming.{is_one_queried}
+use Rattle.cv_costs.specs.names.Naming.{is_one_queried}
 use Rattle.cv_rule_pick.specs.Looks.{IsLiveBranch, arm_of}
 use Rattle.cv_rule_pick.specs.Picking.{Arm, body_place, equations, guards_with, only_arm, own_cells}
 use Rattle.cv_rule_pick.specs.Row.{first_other}

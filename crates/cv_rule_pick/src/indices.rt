@@ -9,11 +9,11 @@ ghost use Rattle.cv_directory_sorts.specs.declared.sort.Sort.TheVariants.{BelowP
 ghost use Rattle.cv_scope.specs.Held.{names_held};
 ghost use Rattle.cv_scope_rules.specs.Scope.{names_of};
 ghost use Rattle.cv_typing.specs.Tables.{arrays_of};
-ghost use Rattle.cv_typing_rules.specs.Signature.{OfGame};
+ghost use Rattle.cv_scope_rules.specs.typing.Signature.{OfGame};
 ghost use Rattle.cv_scene.specs.Terms.{is_sort, replications_at};
 ghost use Rattle.cv_scene_view.specs.Kept.{scene_of};
 ghost use Rattle.cv_steps.specs.Rewriting.{sort_at};
-ghost use Rattle.cv_rule_names.specs.Reach.{is_in_scope_at};
+ghost use Rattle.cv_costs.specs.names.Reach.{is_in_scope_at};
 ghost use Rattle.cv_rule_pick.specs.Picking as picking;
 
 use crate::scope::is_in_scope;

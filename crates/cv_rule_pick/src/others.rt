@@ -5,16 +5,16 @@ ghost use Rattle.cv_syntax_trees.specs.Tree.{Node, same_tree, size};
 ghost use Rattle.cv_syntax.specs.NameSets.{is_in};
 ghost use Rattle.cv_syntax.specs.PoolTrees.{tree_at};
 ghost use Rattle.cv_scope_rules.specs.Context.{cells_of};
-ghost use Rattle.cv_rule_names.specs.Naming as naming;
-ghost use Rattle.cv_rule_names.specs.Naming.{is_between};
+ghost use Rattle.cv_costs.specs.names.Naming as naming;
+ghost use Rattle.cv_costs.specs.names.Naming.{is_between};
 ghost use Rattle.cv_rule_pick.specs.Looks.{first_elsewhere, found_by, is_passed, link_in, opened_at};
 ghost use Rattle.cv_rule_pick.specs.Picking as picking;
 ghost use Rattle.cv_scene.specs.Sights.{variable_of};
 
 use crate::cells::is_own;
+use cv_costs::names::names_one;
 use cv_derive_reasons::cells::variable;
 use cv_path::size_below;
-use cv_rule_names::names_one;
 use cv_syntax::{Head, NodeId, Opened, Pool, read_node};
 use std::collections::HashSet;
 

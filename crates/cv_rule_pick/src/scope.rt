@@ -7,7 +7,7 @@ ghost use Rattle.cv_scope.specs.Held.{IsOpened, names_held};
 ghost use Rattle.cv_scope_rules.specs.Context.{Context, items, known_at, replications_below, second_context};
 ghost use Rattle.cv_scope_rules.specs.Rules as rules;
 ghost use Rattle.cv_scope_rules.specs.Tests.{is_in_reach, reads_in_reach};
-ghost use Rattle.cv_rule_names.specs.Reach.{is_in_scope};
+ghost use Rattle.cv_costs.specs.names.Reach.{is_in_scope};
 ghost use Rattle.cv_rule_pick.specs.Reach.{Reaches, given_cells, own_given};
 
 use crate::cells::{is_cell, is_own};

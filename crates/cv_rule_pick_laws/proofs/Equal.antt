@@ -34,7 +34,7 @@ use Rattle.cv_derive_laws.specs.stores.Soundness.{DerivationsHold}
 use Rattle.cv_derive_laws.specs.stores.Truth.{IsTrue}
 use Rattle.cv_derive_rules.specs.Lines.{lines_of, statements}
 use Rattle.cv_scene.specs.Scenes.{Scene, part_at}
-use Rattle.cv_rule_names.specs.Reach.{is_in_scope}
+use Rattle.cv_costs.specs.names.Reach.{is_in_scope}
 use Rattle.cv_rule_fresh.proofs.Scope.{scope_asked}
 use Rattle.cv_steps_derivations.proofs.unletting.Sites.{part_there}
 use Rattle.cv_rule_pick.specs.Picking.{Arm, arm_place, body_place, equations}

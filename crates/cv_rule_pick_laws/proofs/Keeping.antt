@@ -58,8 +58,8 @@ use Rattle.cv_steps.proofs.Sizes.{NamesSorts, typed_names}
 use Rattle.cv_steps.proofs.Testable.{game_no_calls, game_testable, local}
 use Rattle.cv_steps_laws.proofs.chances.Chances.{one_size_or_none}
 use Rattle.cv_steps_laws.proofs.chances.Inclusion.{Includes, first_in, replaced_included, second_in}
-use Rattle.cv_rule_merge.proofs.Asked.{all_untested}
-use Rattle.cv_rule_merge.proofs.Named.{unread_changed}
+use Rattle.cv_rule_move.proofs.merge.Asked.{all_untested}
+use Rattle.cv_rule_move.proofs.merge.Named.{unread_changed}
 use Rattle.cv_rule_pick.specs.Picking.{Arm, arm_place, is_inside, with_terms}
 use Rattle.cv_rule_pick_laws.specs.Settling.{IsSettled, decided, in_branch, same as settled_same}
 use Rattle.cv_rule_pick_laws.proofs.Body.{settled}

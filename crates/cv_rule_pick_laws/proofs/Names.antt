@@ -31,9 +31,9 @@ use Rattle.cv_steps.specs.Unletting.{has_cell_of, is_listed}
 use Rattle.cv_steps_derivations.proofs.unletting.Lists.{adds_none, unlisted}
 use Rattle.cv_steps_derivations.proofs.unletting.Reach.{first_reach, second_reach}
 use Rattle.cv_steps_derivations.proofs.unletting.Sites.{part_there}
-use Rattle.cv_rule_names.specs.Reach.{is_in_scope}
-use Rattle.cv_rule_names.specs.Naming.{binds_one, first_naming, is_between, names_one}
-use Rattle.cv_rule_merge.proofs.Named.{IsUnnamed, parts_unnamed}
+use Rattle.cv_costs.specs.names.Reach.{is_in_scope}
+use Rattle.cv_costs.specs.names.Naming.{binds_one, first_naming, is_between, names_one}
+use Rattle.cv_rule_move.proofs.merge.Named.{IsUnnamed, parts_unnamed}
 use Rattle.cv_rule_pick.specs.Picking.{first_cell, first_listed, is_inside, is_one, lesser, term_of, with_terms}
 use Rattle.cv_rule_pick_laws.proofs.Terms.{AllBoth, IsRead, reads, term_has, with_kept, with_term}
 

@@ -39,8 +39,8 @@ use Rattle.cv_steps_laws.proofs.Sorts.{oracle_of_parts}
 use Rattle.cv_steps_laws.proofs.chances.Phrases.{body_output, find_parts, phrase_there}
 use Rattle.cv_steps_derivations.proofs.unletting.Lists.{unlisted}
 use Rattle.cv_steps_derivations.proofs.unletting.Sites.{part_there}
-use Rattle.cv_rule_names.specs.Reach.{is_in_scope, is_in_scope_at, is_in_scope_by}
-use Rattle.cv_rule_names.specs.Naming.{first_naming, is_one_queried}
+use Rattle.cv_costs.specs.names.Reach.{is_in_scope, is_in_scope_at, is_in_scope_by}
+use Rattle.cv_costs.specs.names.Naming.{first_naming, is_one_queried}
 use Rattle.cv_rule_pick.specs.Picking.{Arm, are_indices_at, are_terms_at, arm_place, behind_arm, body_place, equations, first_listed, guards_with, is_inside, only_arm, own_cells, term_of, with_terms}
 use Rattle.cv_rule_pick.specs.Row.{first_other, pick_row, pick_row_by}
 use Rattle.cv_rule_pick_laws.proofs.Names.{ArePaired, above_none, neither, no_index, not_listed, scope_unread}

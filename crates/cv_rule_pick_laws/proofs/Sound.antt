@@ -29,7 +29,7 @@ use Rattle.cv_steps_laws.proofs.Values.{values_changed, values_kept}
 use Rattle.cv_derive_rules.specs.Ends.{ends_with}
 use Rattle.cv_derive_laws.proofs.stores.Costs.{free_taped, kept_costs}
 use Rattle.cv_derive_laws.specs.stores.Steps.{IsSound}
-use Rattle.cv_rule_names.specs.Naming.{is_one_queried}
+use Rattle.cv_costs.specs.names.Naming.{is_one_queried}
 use Rattle.cv_scope_rules.specs.Made.{is_own_at}
 use Rattle.cv_rule_pick.specs.Picking.{Arm as OnlyArm, are_indices_at, body_place, equations, guards_with, only_arm, own_cells, term_of, with_terms}
 use Rattle.cv_rule_pick.specs.Row.{first_other, pick_row_by, pick_step}

@@ -5,15 +5,15 @@ use Rattle.cv_syntax_trees.specs.declared.head.Head.TheVariants.{ByBool, ByFact,
 use Rattle.cv_syntax_trees.specs.Builders.{leaf, read}
 use Rattle.cv_syntax_trees.specs.Declarations.{Query}
 use Rattle.cv_syntax_trees.specs.Tree.{lone, size, depth, subtree, same_tree}
-use Rattle.cv_syntax_faults.specs.Walk.{first_fault}
+use Rattle.cv_syntax.specs.faults.Walk.{first_fault}
 use Rattle.cv_meaning.specs.Queries.{queries_in}
 use Rattle.cv_meaning.specs.Replaced.{replaced}
 use Rattle.cv_meaning_runs.specs.Replacement.{if_tree}
 use Rattle.cv_directory_sorts.specs.Sites.{first_index, first_site, bound_sort, is_untyped_in}
 use Rattle.cv_directory_sorts.specs.Counting.{count}
-use Rattle.cv_typing_rules.specs.Parts.{first_in}
-use Rattle.cv_typing_rules.specs.Typing.{binders_differ}
-use Rattle.cv_typing_rules.specs.Signature.{names_in}
+use Rattle.cv_scope_rules.specs.typing.Parts.{first_in}
+use Rattle.cv_scope_rules.specs.typing.Typing.{binders_differ}
+use Rattle.cv_scope_rules.specs.typing.Signature.{names_in}
 use Rattle.cv_scope_rules.specs.Above.{standing_at}
 use Rattle.cv_scope_rules.specs.Behind.{sites_in}
 use Rattle.cv_scope_rules.specs.Context.{context_at}
@@ -32,8 +32,8 @@ use Rattle.cv_steps.specs.Steps.{Step, Zero}
 use Rattle.cv_steps.specs.Judgements.{Accepted, Judgement, Refused, judgement_of}
 use Rattle.cv_steps_laws.specs.Worked.{copies, copy_of, sends_copy}
 use Rattle.cv_derive_laws.specs.worked.Worked.{is_there, line, one}
-use Rattle.cv_rule_names.specs.Reach.{is_in_scope}
-use Rattle.cv_rule_names.specs.Naming.{first_naming}
+use Rattle.cv_costs.specs.names.Reach.{is_in_scope}
+use Rattle.cv_costs.specs.names.Naming.{first_naming}
 use Rattle.cv_rule_pick.specs.Picking.{first_listed, with_terms}
 use Rattle.cv_rule_pick_laws.specs.Worked.{at_body, at_find, before_nonce, copies_of, copies_with, both_at_body, both_at_find, found, found_any, found_both, found_two, late_at_body, late_at_find, lists_itself, nowhere_at_body, nowhere_at_find, own, pick, picks, same, sends_found, sends_unseen, tests, yields}
 

@@ -9,7 +9,7 @@ use Rattle.cv_meaning.specs.Interpretation.{Interpretation, is_constant_of}
 use Rattle.cv_meaning.specs.Runs.{Events, Mode, Random, Real}
 use Rattle.cv_meaning.specs.Side.{CallNumber}
 use Rattle.cv_meaning.specs.Tapes.{Made_at, New_at}
-use Rattle.cv_meaning_contexts.specs.Bodies.{function_called}
+use Rattle.cv_meaning.specs.contexts.Bodies.{function_called}
 use Rattle.cv_scope_rules.specs.Context.{cell_of, first_position, replications_below}
 use Rattle.cv_scope_rules.specs.Phrases.{Phrase, Branches, Cells, Else, Guarded, Guards, Inputs, IsWellFormed, OneCell, Then, parts}
 use Rattle.cv_scope_rules.specs.Rules.{is_index}

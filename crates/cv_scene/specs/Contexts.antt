@@ -7,8 +7,8 @@ use Rattle.cv_syntax_trees.specs.declared.head.Head.{Head}
 use Rattle.cv_syntax_trees.specs.declared.head.Head.TheVariants.{Call, Cons, Event, If, Key, Let, New, Out}
 use Rattle.cv_syntax_trees.specs.Tree.{Tree, Empty, Node, chain, first, second}
 use Rattle.cv_meaning.specs.Interpretation.{is_constant_of}
-use Rattle.cv_meaning_contexts.specs.Groups.{Left, side_group}
-use Rattle.cv_meaning_contexts.specs.Sides.{Context}
+use Rattle.cv_meaning.specs.contexts.Groups.{Left, side_group}
+use Rattle.cv_meaning.specs.contexts.Sides.{Context}
 use Rattle.cv_scope_rules.specs.declared.position.Position.{Position}
 use Rattle.cv_scope_rules.specs.declared.position.Position.TheVariants.{Anywhere}
 use Rattle.cv_scope_rules.specs.Context.{cell_of, first_position, replications_below, second_position}

@@ -4,9 +4,9 @@ use Rattle.std.specs.List.{list_any}
 use Rattle.cv_syntax_trees.specs.Tree.{Tree}
 use Rattle.cv_meaning.specs.Candidates.{below}
 use Rattle.cv_meaning.specs.Interpretation.{Interpretation, Setting, setting_of, setting_with}
-use Rattle.cv_meaning_contexts.specs.Finds.{Oracles}
-use Rattle.cv_meaning_contexts.specs.Groups.{Left}
-use Rattle.cv_meaning_contexts.specs.Sides.{Context, oracles_of, side_from}
+use Rattle.cv_meaning.specs.contexts.Finds.{Oracles}
+use Rattle.cv_meaning.specs.contexts.Groups.{Left}
+use Rattle.cv_meaning.specs.contexts.Sides.{Context, oracles_of, side_from}
 use Rattle.cv_scene.specs.Scenes.{Scene}
 use Rattle.cv_scene.specs.Instances.{Matching}
 use Rattle.cv_scene.specs.Sites.{Site, sites_of}

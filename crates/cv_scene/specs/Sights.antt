@@ -6,9 +6,9 @@ use Rattle.cv_syntax_trees.specs.Tree.{Tree, Node, first}
 use Rattle.cv_scope_rules.specs.Context.{Context}
 use Rattle.cv_scope_rules.specs.Phrases.{OneCell, is_phrase}
 use Rattle.cv_directory_sorts.specs.declared.sort.Sort.{Sort}
-use Rattle.cv_typing_rules.specs.Signature.{sort_of}
-use Rattle.cv_typing_rules.specs.Typing.{first_fault}
-use Rattle.cv_typing_rules.specs.Wants.{AnyTerm}
+use Rattle.cv_scope_rules.specs.typing.Signature.{sort_of}
+use Rattle.cv_scope_rules.specs.typing.Typing.{first_fault}
+use Rattle.cv_scope_rules.specs.typing.Wants.{AnyTerm}
 use Rattle.cv_scope_rules.specs.Behind.{sites_of}
 use Rattle.cv_scope_rules.specs.Above.{stands_at}
 use Rattle.cv_scene.specs.Scenes.{Scene}

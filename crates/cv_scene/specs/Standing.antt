@@ -7,7 +7,7 @@ use Rattle.cv_meaning.specs.Memory.{Indices, Store}
 use Rattle.cv_meaning.specs.Side.{CallNumber, OracleCall}
 use Rattle.cv_meaning.specs.Tapes.{Key_at, Made_at, Tape}
 use Rattle.cv_meaning.specs.Terms.{found_in, value, values}
-use Rattle.cv_meaning_contexts.specs.Groups.{Function}
+use Rattle.cv_meaning.specs.contexts.Groups.{Function}
 use Rattle.cv_scene.specs.Instances.{Instance}
 
 -- each coin's term has the value that is drawn for the coin at the call

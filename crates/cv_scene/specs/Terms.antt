@@ -8,12 +8,12 @@ use Rattle.cv_meaning.specs.Interpretation.{is_constant_of}
 use Rattle.cv_directory_sorts.specs.declared.sort.Sort.{Sort}
 use Rattle.cv_directory_sorts.specs.declared.sort.Sort.TheVariants.{BelowParameter}
 use Rattle.cv_directory_sorts.specs.Sites.{first_site, first_index}
-use Rattle.cv_typing_rules.specs.Signature.{Signature, Above, boolean, function_in, sort_of}
+use Rattle.cv_scope_rules.specs.typing.Signature.{Signature, Above, boolean, function_in, sort_of}
 use Rattle.cv_directory_sorts.specs.Sorts.{same_sort}
-use Rattle.cv_typing_rules.specs.Wants.{AnyTerm, bound}
-use Rattle.cv_typing_rules.specs.declared.precedence.Precedence.TheVariants.{First}
-use Rattle.cv_typing_rules.specs.Typing as typing
-use Rattle.cv_typing_rules.specs.Parts.{first_in, game_part, nothing_above, signature_of}
+use Rattle.cv_scope_rules.specs.typing.Wants.{AnyTerm, bound}
+use Rattle.cv_scope_rules.specs.declared.typing.precedence.Precedence.TheVariants.{First}
+use Rattle.cv_scope_rules.specs.typing.Typing as typing
+use Rattle.cv_scope_rules.specs.typing.Parts.{first_in, game_part, nothing_above, signature_of}
 use Rattle.cv_scope_rules.specs.Context.{Context, known_at}
 use Rattle.cv_scope_rules.specs.Rules.{is_index}
 use Rattle.cv_scope_rules.specs.Scope.{first_scope_fault}

@@ -16,7 +16,7 @@ use Rattle.cv_scope_rules.specs.Sites.{Variable}
 use Rattle.cv_scope_rules.specs.Made.{made_by}
 use Rattle.cv_scope_rules.specs.Phrases.{binds_none, head_binds_none}
 use Rattle.cv_scene.specs.Scenes.{asks_for, first_reading, has_news_alone, has_some_new, head_names, head_reads, is_new_head, is_type_by, names}
-use Rattle.cv_typing_rules.specs.Signature.{declaration_of}
+use Rattle.cv_scope_rules.specs.typing.Signature.{declaration_of}
 use Rattle.cv_typing.proofs.Bridges.{declaration_same}
 use Rattle.cv_scene_view.specs.Kept.{is_type_class}
 

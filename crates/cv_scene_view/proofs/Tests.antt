@@ -7,9 +7,9 @@ use Rattle.cv_syntax_trees.specs.Tree.{Tree}
 use Rattle.cv_directory_sorts.specs.declared.sort.Sort.{Sort}
 use Rattle.cv_directory_sorts.specs.Sites.{sites_of}
 use Rattle.cv_typing.specs.declared.arrays.Arrays.{Arrays}
-use Rattle.cv_typing_rules.specs.Parts.{nothing_above}
-use Rattle.cv_typing_rules.specs.Signature.{OfGame, index_in, variable_in}
-use Rattle.cv_typing_rules.specs.Signature as signature
+use Rattle.cv_scope_rules.specs.typing.Parts.{nothing_above}
+use Rattle.cv_scope_rules.specs.typing.Signature.{OfGame, index_in, variable_in}
+use Rattle.cv_scope_rules.specs.typing.Signature as signature
 use Rattle.cv_typing.specs.Tables.{Map, above_of, arrays_of}
 use Rattle.cv_scope_rules.specs.Context.{known_at}
 use Rattle.cv_scope_rules.specs.Rules.{is_index}

@@ -8,10 +8,10 @@ use Rattle.cv_scope_rules.specs.Refusals.{IsRefusalOf, named}
 use Rattle.cv_syntax_trees.specs.Declarations.{Declaration}
 use Rattle.cv_syntax_trees.specs.Tree.{Tree}
 use Rattle.cv_directory.proofs.Entries.{first_nothing}
-use Rattle.cv_typing_rules.specs.declared.form.Form.TheVariants.{InProcess}
-use Rattle.cv_typing_rules.specs.Parts.{first_in, game_part, nothing_above, signature_of}
-use Rattle.cv_typing_rules.specs.Typing.{first_fault}
-use Rattle.cv_typing_rules.specs.Wants.{Run}
+use Rattle.cv_scope_rules.specs.declared.typing.form.Form.TheVariants.{InProcess}
+use Rattle.cv_scope_rules.specs.typing.Parts.{first_in, game_part, nothing_above, signature_of}
+use Rattle.cv_scope_rules.specs.typing.Typing.{first_fault}
+use Rattle.cv_scope_rules.specs.typing.Wants.{Run}
 use Rattle.cv_lists.proofs.Options.{is_some_map}
 
 -- a refusal that names a fault is of one

@@ -11,10 +11,10 @@ use Rattle.cv_syntax_trees.specs.declared.head.Head.{Head}
 use Rattle.cv_syntax_trees.specs.declared.head.Head.TheVariants.{Repl}
 use Rattle.cv_syntax.specs.PoolTrees.{tree_at}
 use Rattle.cv_typing.specs.declared.arrays.Arrays.{Arrays}
-use Rattle.cv_typing_rules.specs.Signature.{Above, index_in, variable_in}
+use Rattle.cv_scope_rules.specs.typing.Signature.{Above, index_in, variable_in}
 use Rattle.cv_typing.specs.Tables.{Map, above_of, arrays_of}
-use Rattle.cv_typing_rules.specs.declared.precedence.Precedence.TheVariants.{First}
-use Rattle.cv_typing_rules.specs.Wants.{bound}
+use Rattle.cv_scope_rules.specs.declared.typing.precedence.Precedence.TheVariants.{First}
+use Rattle.cv_scope_rules.specs.typing.Wants.{bound}
 use Rattle.cv_directory_sorts.specs.declared.sort.Sort.{Sort}
 use Rattle.cv_directory_sorts.specs.declared.sort.Sort.TheVariants.{BelowParameter}
 use Rattle.cv_scene.specs.Scenes.{Scene}

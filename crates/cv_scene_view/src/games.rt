@@ -9,7 +9,7 @@ ghost use Rattle.cv_directory_sorts.specs.Sites.{sites_of};
 ghost use Rattle.cv_directory.specs.Definitions.{entries_of, large_in};
 ghost use Rattle.cv_directory.specs.Tables.{entries_in, seen};
 ghost use Rattle.cv_directory.specs.Live.{IsLive};
-ghost use Rattle.cv_typing_rules.specs.Signature.{OfGame, function_in};
+ghost use Rattle.cv_scope_rules.specs.typing.Signature.{OfGame, function_in};
 ghost use Rattle.cv_typing.specs.Tables.{arrays_of, directory_in};
 ghost use Rattle.cv_scope.specs.Held.{names_held};
 ghost use Rattle.cv_scope_rules.specs.Refusals.{named};

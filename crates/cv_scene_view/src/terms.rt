@@ -4,11 +4,11 @@ ghost use Rattle.cv_directory_sorts.specs.declared.sort.Sort.TheVariants.{BelowP
 ghost use Rattle.cv_scope_rules.specs.Context.{replications_below};
 ghost use Rattle.cv_syntax_trees.specs.Tree.{size};
 ghost use Rattle.cv_syntax.specs.PoolTrees.{tree_at};
-ghost use Rattle.cv_typing_rules.specs.declared.precedence.Precedence.TheVariants.{Newest};
+ghost use Rattle.cv_scope_rules.specs.declared.typing.precedence.Precedence.TheVariants.{Newest};
 ghost use Rattle.cv_directory.specs.Live.{IsLive};
-ghost use Rattle.cv_typing_rules.specs.Signature.{OfGame, boolean};
+ghost use Rattle.cv_scope_rules.specs.typing.Signature.{OfGame, boolean};
 ghost use Rattle.cv_typing.specs.Tables.{above_of, arrays_of};
-ghost use Rattle.cv_typing_rules.specs.Wants.{bound};
+ghost use Rattle.cv_scope_rules.specs.typing.Wants.{bound};
 ghost use Rattle.cv_scene.specs.Terms as terms;
 ghost use Rattle.cv_scene_view.specs.Kept.{above_behind, scene_of};
 

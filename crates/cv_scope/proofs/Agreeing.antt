@@ -1,6 +1,6 @@
 -- What is found by the tables is the first fault.
 use Rattle.std.proofs.Common.{◌≡◌, ℕ, ◌+◌, ◌<◌, Bool, true, false, ◌&&◌, ◌||◌, not, cond, List, [], ◌∷◌, ◌++◌, length, refl, ap, ap₂, sym, ◌∙◌, subst, arith, Option, Some, None, append_assoc, append-nil}
-use Rattle.cv_syntax_faults.specs.Walk.{first_fault as walk_fault, placed}
+use Rattle.cv_syntax.specs.faults.Walk.{first_fault as walk_fault, placed}
 use Rattle.cv_syntax_trees.specs.declared.head.Head.{Head}
 use Rattle.cv_syntax_trees.specs.declared.head.Head.TheVariants.{Leaf, Read}
 use Rattle.cv_syntax_trees.specs.Head.{weight}

@@ -17,8 +17,8 @@ use Rattle.cv_scope_rules.specs.Context.{first_position, second_position, replic
 use Rattle.cv_scope.specs.Held.{Extends, HasLiveBinders, IsEntered, IsTaken, Keeps, OnlySites, SameAbove, cells_held, last_held, state_held}
 use Rattle.cv_scope_rules.specs.Refusals.{IsRefusalOf, named, refusal}
 use Rattle.cv_scope_rules.specs.Rules.{Names}
-use Rattle.cv_syntax_faults.specs.Walk.{placed}
-use Rattle.cv_syntax_faults.proofs.Steps as steps
+use Rattle.cv_syntax.specs.faults.Walk.{placed}
+use Rattle.cv_syntax.proofs.faults.Steps as steps
 use Rattle.cv_scope.specs.Seen.{Seen, behind, fault_seen, found, passed_by, second_seen, with_node, with_sites, with_tree}
 use Rattle.cv_scope_rules.specs.Sites.{Site, SiteName, sites_from, sites_here}
 use Rattle.cv_scope_rules.specs.Ranges.{EndBy}

@@ -18,7 +18,7 @@ use Rattle.cv_scope_rules.specs.Sites.{Site, SiteName, named_here, channel_here,
 use Rattle.cv_scope_rules.specs.Standing.{parts_ways}
 use Rattle.cv_scope_rules.specs.Rules.{Names, is_index, carries_current}
 use Rattle.cv_scope_rules.specs.Tests.{same_name, is_in_one_of, are_alike, is_few_indices, binds_new_index}
-use Rattle.cv_syntax_faults.specs.Walk.{placed}
+use Rattle.cv_syntax.specs.faults.Walk.{placed}
 
 pub record Seen : Type 0 where
   pub replications : List (ℕ × ℕ)

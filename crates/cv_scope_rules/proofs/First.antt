@@ -1,8 +1,8 @@
 -- What is computed is the first fault in preorder, and there is none exactly where all is scoped.
 use Rattle.std.proofs.Common.{◌≡◌, ℕ, ◌+◌, ◌≤◌, Some, None}
 use Rattle.cv_syntax_trees.specs.Tree.{Tree, size}
-use Rattle.cv_syntax_faults.specs.Walk.{IsDecided}
-use Rattle.cv_syntax_faults.proofs.First as walk
+use Rattle.cv_syntax.specs.faults.Walk.{IsDecided}
+use Rattle.cv_syntax.proofs.faults.First as walk
 use Rattle.cv_scope_rules.specs.declared.fault.Fault.{Fault}
 use Rattle.cv_scope_rules.specs.Standing.{Standing}
 use Rattle.cv_scope_rules.specs.Rules.{Names}

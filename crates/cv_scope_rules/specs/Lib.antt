@@ -12,3 +12,4 @@ pub mod Made
 pub mod Behind
 pub mod Above
 pub mod Ranges
+pub mod typing

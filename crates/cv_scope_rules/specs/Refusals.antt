@@ -6,7 +6,7 @@ use Rattle.cv_scope_rules.specs.declared.fault.Fault.{Fault}
 use Rattle.cv_scope_rules.specs.declared.fault.Fault.TheVariants as fault
 use Rattle.cv_scope_rules.specs.declared.fault.ScopeFault.{ScopeFault}
 use Rattle.cv_scope_rules.specs.declared.fault.ScopeFault.TheVariants as refused
-use Rattle.cv_syntax_faults.specs.Walk as walk
+use Rattle.cv_syntax.specs.faults.Walk as walk
 use Rattle.cv_scope_rules.specs.Scope.{IsFirstFault}
 
 abbrev pub refusal : ℕ → Fault → ScopeFault

@@ -6,8 +6,8 @@ use Rattle.cv_meaning.specs.Interpretation.{is_constant_of}
 use Rattle.cv_directory_sorts.specs.Sites.{first_site}
 unfoldable pub use Rattle.cv_directory_sorts.specs.Sites.{is_untyped_in}
 pub use Rattle.cv_directory_sorts.specs.Sites.{is_untyped_here}
-use Rattle.cv_syntax_faults.specs.Walk as walk
-use Rattle.cv_syntax_faults.specs.Walk.{IsObeyed, Walk}
+use Rattle.cv_syntax.specs.faults.Walk as walk
+use Rattle.cv_syntax.specs.faults.Walk.{IsObeyed, Walk}
 use Rattle.cv_scope_rules.specs.declared.fault.Fault.{Fault}
 use Rattle.cv_scope_rules.specs.Standing.{Standing, at_root, first_standing, second_standing}
 use Rattle.cv_scope_rules.specs.Rules.{Names, Obeys, Breaks}

@@ -4,6 +4,7 @@
 mod fault;
 mod laws;
 mod position;
+pub mod typing;
 pub mod worked;
 
 pub use fault::{Fault, ScopeFault};

@@ -1,7 +1,7 @@
 -- What array scope asks of the nodes of a tree, without the sites before it; what one node binds is distinct.
 use Rattle.std.proofs.Common.{◌≡◌, ℕ, Bool, true, false, ◌||◌, ◌==◌, List, refl, ap, arith, eqb-true}
 use Rattle.std.specs.List.{AllByRecursion}
-use Rattle.cv_syntax_faults.specs.Walk.{IsObeyed}
+use Rattle.cv_syntax.specs.faults.Walk.{IsObeyed}
 use Rattle.cv_syntax_trees.specs.declared.head.Head.{Head}
 use Rattle.cv_syntax_trees.specs.declared.head.Head.TheVariants.{In, Branch, Binder}
 use Rattle.cv_syntax_trees.specs.Declarations.{Declaration}

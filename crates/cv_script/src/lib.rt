@@ -1,6 +1,7 @@
 // Steps of a proof, with their certificates and derivations: their text, and views of their items.
 #![tactic(auto)]
 
+pub mod reader;
 pub mod rows;
 mod steps;
 mod views;

@@ -3,7 +3,7 @@
 ghost use Rattle.std.specs.Prelude.{◌≡◌, ◌+◌, ◌≤◌, ℕ, suc, true, List, [], ◌∷◌, ◌++◌, length, codes, ◌<◌, ◌^◌, Ok};
 ghost use Rattle.cv_syntax_trees.specs.Tree.{Tree, chain};
 ghost use Rattle.cv_parse_grammar.specs.Files.{levels};
-ghost use Rattle.cv_script_reader.specs.Scripts.{items, script_read};
+ghost use Rattle.cv_script.specs.reader.Scripts.{items, script_read};
 ghost use Rattle.cv_syntax.specs.limits.Limits.{nodes_of};
 ghost use Rattle.cv_print_bytes.specs.Known.{AreNames};
 ghost use Rattle.cv_print_scripts.specs.Known.{is_known};

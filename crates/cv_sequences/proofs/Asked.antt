@@ -10,9 +10,9 @@ use Rattle.cv_meaning.specs.Runs.{Events, Random, Real}
 use Rattle.cv_meaning.specs.Satisfies.{Satisfies}
 use Rattle.cv_meaning_laws.proofs.adequacy.Lists.{contains_has}
 use Rattle.cv_meaning_laws.proofs.Listed.{Has}
-use Rattle.cv_typing_rules.specs.declared.form.Form.TheVariants.{InProcess}
-use Rattle.cv_typing_rules.specs.Parts.{AreTyped, IsTypedFile, IsTypedPart, Part, declaration_parts, game_part, nothing_above}
-use Rattle.cv_typing_rules.specs.Wants.{Run}
+use Rattle.cv_scope_rules.specs.declared.typing.form.Form.TheVariants.{InProcess}
+use Rattle.cv_scope_rules.specs.typing.Parts.{AreTyped, IsTypedFile, IsTypedPart, Part, declaration_parts, game_part, nothing_above}
+use Rattle.cv_scope_rules.specs.typing.Wants.{Run}
 use Rattle.cv_meaning.specs.Queries.{queries_in}
 use Rattle.cv_query_form.specs.Rules.{AreAsked, HasValues, MayBeAsked}
 use Rattle.cv_typing_runs.specs.Games.{HasDeclaredSorts}

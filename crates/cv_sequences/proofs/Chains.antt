@@ -12,16 +12,16 @@ use Rattle.cv_meaning.specs.Advantage.{IsAsked, chance_of}
 use Rattle.cv_meaning.specs.Queries.{queries_in}
 use Rattle.cv_meaning_chances.specs.Fractions.{HasTapes, plus}
 use Rattle.cv_meaning_chances.proofs.FractionLaws.{at_most_trans, distance_kept}
-use Rattle.cv_meaning_contexts.specs.ContextAdvantage.{context_chance}
-use Rattle.cv_meaning_contexts.specs.Groups.{Left, Right}
+use Rattle.cv_meaning.specs.contexts.ContextAdvantage.{context_chance}
+use Rattle.cv_meaning.specs.contexts.Groups.{Left, Right}
 use Rattle.cv_meaning_chances.specs.values.Values.{HasValuesIn}
 use Rattle.cv_meaning_chances.proofs.values.Tapes.{tapes}
 use Rattle.cv_bound.specs.declared.cost.Cost.{Cost as SumCost}
 use Rattle.cv_bound.specs.declared.terms.Experiment.TheVariants as term
 use Rattle.cv_bound.specs.declared.terms.Term.{Term}
 use Rattle.cv_bound.specs.Sums.{added}
-use Rattle.cv_bound_values.specs.Values.{Advantages, cost_value, sum_value}
-use Rattle.cv_bound_values.proofs.Adding.{tapes_are_kept}
+use Rattle.cv_steps.specs.values.Values.{Advantages, cost_value, sum_value}
+use Rattle.cv_steps.proofs.values.Adding.{tapes_are_kept}
 use Rattle.cv_derive_laws.specs.stores.Costs.{bound_of}
 use Rattle.cv_derive_laws.proofs.stores.Costs.{apart}
 use Rattle.cv_sequences.proofs.costs.Costs.{cost_worth, together}
@@ -38,9 +38,9 @@ use Rattle.cv_context_right_side.specs.Right.{IsStepOfFile}
 use Rattle.cv_steps.specs.Asked.{AskForNoIndex}
 use Rattle.cv_steps.specs.Sequences.{scene}
 use Rattle.cv_steps.specs.Steps.{Collisions, Cost, Zero}
-use Rattle.cv_steps_crypto.specs.Conditions.{equivalence_of, failure_of}
-use Rattle.cv_steps_crypto.specs.Steps.{first_answer, reduction_of}
-use Rattle.cv_steps_crypto.proofs.Accepted.{accepted, next_drawn}
+use Rattle.cv_steps_laws.specs.crypto.Conditions.{equivalence_of, failure_of}
+use Rattle.cv_steps_laws.specs.crypto.Steps.{first_answer, reduction_of}
+use Rattle.cv_steps_laws.proofs.crypto.Accepted.{accepted, next_drawn}
 use Rattle.cv_sequences.specs.Chains.{ByEquivalence, ByStep, HasPrice, HasSides, HasTapedPrice, HaveTapedPrices, IsChain, IsClose, IsFileOf, IsLink, IsOfCost, Link, Prices, cost_behind, costs_behind, game_after, names_below, next_behind, push, start, summed}
 use Rattle.cv_sequences.proofs.Accepted.{step_ready}
 use Rattle.cv_sequences.proofs.Kept.{next_asks_no_index, next_valued}

@@ -3,7 +3,7 @@
 use Rattle.std.proofs.Common.{◌≡◌, ℕ, ◌<◌, ◌≤◌, true, false, List, None, refl, ap, sym, ◌∙◌, arith}
 use Rattle.std.specs.Prelude.{option_map}
 use Rattle.std.proofs.lemmas.Bool.{both_ways, and_parts, or_parts}
-use Rattle.cv_syntax_faults.specs.Walk.{IsObeyed}
+use Rattle.cv_syntax.specs.faults.Walk.{IsObeyed}
 use Rattle.cv_syntax_trees.specs.declared.head.Head.TheVariants.{Binder, Branch, Cons, Event, Find, If, In, Leaf, Let, Name, New, Out, Par, Read, Repl, Stop, Yield}
 use Rattle.cv_syntax_trees.specs.Declarations.{Declaration}
 use Rattle.cv_syntax_trees.specs.Tree.{Tree, Empty, Node, second}
@@ -17,10 +17,10 @@ use Rattle.cv_scope_rules.specs.Phrases.{Phrase, Arm, Binders, Body, Branches as
 use Rattle.cv_directory_sorts.specs.declared.sort.Sort.{Sort}
 use Rattle.cv_directory_sorts.specs.declared.sort.Sort.TheVariants.{BelowParameter, OfType}
 use Rattle.cv_directory_sorts.specs.Sites.{Variable, sites_of}
-use Rattle.cv_typing_rules.specs.Signature.{Above, OfGame, Signature, variable_sort}
-use Rattle.cv_typing_rules.specs.Typing.{IsTyped, binders_differ}
+use Rattle.cv_scope_rules.specs.typing.Signature.{Above, OfGame, Signature, variable_sort}
+use Rattle.cv_scope_rules.specs.typing.Typing.{IsTyped, binders_differ}
 use Rattle.cv_directory_sorts.specs.Sorts.{differs_from}
-use Rattle.cv_typing_rules.specs.Wants.{Want, above_second, wants}
+use Rattle.cv_scope_rules.specs.typing.Wants.{Want, above_second, wants}
 use Rattle.cv_typing_runs.specs.Games.{AreDeclared, HasDeclaredSorts, sort_of_meaning}
 use Rattle.cv_typing_runs.proofs.SameSites.{input_binders}
 use Rattle.cv_typing_runs.proofs.Terms.{faultless, same_sorts}

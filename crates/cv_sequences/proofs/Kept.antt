@@ -17,9 +17,9 @@ use Rattle.cv_meaning.specs.Satisfies.{Satisfies}
 use Rattle.cv_meaning_laws.proofs.adequacy.Lists.{contains_has}
 use Rattle.cv_meaning_laws.proofs.Listed.{Has}
 use Rattle.cv_directory_sorts.specs.Sites.{first_index, first_of, first_site, index_here, is_untyped_in}
-use Rattle.cv_typing_rules.specs.declared.form.Form.TheVariants.{InProcess}
-use Rattle.cv_typing_rules.specs.Parts.{IsTypedGame, nothing_above}
-use Rattle.cv_typing_rules.specs.Wants.{Run}
+use Rattle.cv_scope_rules.specs.declared.typing.form.Form.TheVariants.{InProcess}
+use Rattle.cv_scope_rules.specs.typing.Parts.{IsTypedGame, nothing_above}
+use Rattle.cv_scope_rules.specs.typing.Wants.{Run}
 use Rattle.cv_query_form.specs.Rules.{HasValues, MayBeAsked}
 use Rattle.cv_query_form.specs.Tests.{has_values, passes}
 use Rattle.cv_query_form.proofs.Decided.{query_found}
@@ -29,7 +29,7 @@ use Rattle.cv_scope_rules.specs.Scope.{IsScoped}
 use Rattle.cv_scene.specs.Scenes.{Scene, asks_for, head_names, names}
 use Rattle.cv_scene.specs.Terms.{has_index}
 use Rattle.cv_steps.specs.Asked.{AskForNoIndex}
-use Rattle.cv_steps_crypto.specs.Secrets.{asks_without_values, is_without_values, some_asks_without_values}
+use Rattle.cv_steps_laws.specs.crypto.Secrets.{asks_without_values, is_without_values, some_asks_without_values}
 use Rattle.cv_context_right_side.proofs.queries.Asked.{variable_no_index}
 use Rattle.cv_meaning_chances.specs.values.Values.{ConstructHasValues, HasValuesIn, is_tested}
 use Rattle.cv_sequences.proofs.Choices.{game_valued}

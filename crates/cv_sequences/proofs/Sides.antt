@@ -6,8 +6,8 @@ use Rattle.cv_meaning.specs.Experiments.{Experiment}
 use Rattle.cv_meaning.specs.Interpretation.{Interpretation, setting_of}
 use Rattle.cv_meaning.specs.Queries.{queries_in}
 use Rattle.cv_meaning.specs.Runs.{Adversary}
-use Rattle.cv_meaning_contexts.specs.ContextAdvantage.{context_chance}
-use Rattle.cv_meaning_contexts.specs.Groups.{Left, Right}
+use Rattle.cv_meaning.specs.contexts.ContextAdvantage.{context_chance}
+use Rattle.cv_meaning.specs.contexts.Groups.{Left, Right}
 use Rattle.cv_scene.specs.Reductions.{Reduction, context_of_game}
 use Rattle.cv_match_laws.specs.answers.Drawn.{AreDrawnFor, next_game}
 use Rattle.cv_context_left_side.proofs.refusals.Whole.{apt_game, apt_test}

@@ -13,8 +13,8 @@ use Rattle.cv_meaning_chances.specs.Fractions.{HasTapes, plus}
 use Rattle.cv_meaning_chances.proofs.FractionLaws.{at_most_trans, plus_kept, triangle}
 use Rattle.cv_bound.specs.declared.terms.Term.{Term}
 use Rattle.cv_bound.specs.Sums.{added}
-use Rattle.cv_bound_values.specs.Values.{Advantages, cost_value, sum_value}
-use Rattle.cv_bound_values.proofs.Adding.{tapes_are_kept}
+use Rattle.cv_steps.specs.values.Values.{Advantages, cost_value, sum_value}
+use Rattle.cv_steps.proofs.values.Adding.{tapes_are_kept}
 use Rattle.cv_derive_laws.proofs.stores.Costs.{apart}
 use Rattle.cv_sequences.proofs.costs.Costs.{cost_worth}
 use Rattle.cv_meaning.specs.Queries.{queries_in}

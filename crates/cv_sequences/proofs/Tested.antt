@@ -9,11 +9,11 @@ use Rattle.cv_scene.specs.Contexts.{matching_of}
 use Rattle.cv_scene.specs.Refusals.{Refusal, first_refusal}
 use Rattle.cv_scene.specs.Scenes.{Scene, names}
 use Rattle.cv_scene.specs.Terms.{is_game}
-use Rattle.cv_steps_crypto.specs.Conditions.{equivalence_of, failed, failure_by, failure_of, failure_with}
-use Rattle.cv_steps_crypto.specs.Secrets.{some_asks_without_values}
-use Rattle.cv_steps_crypto.specs.Sorts.{has_declared_sorts}
-use Rattle.cv_steps_crypto.specs.Steps.{is_next}
-use Rattle.cv_steps_crypto.proofs.Sorts.{sorts_declared}
+use Rattle.cv_steps_laws.specs.crypto.Conditions.{equivalence_of, failed, failure_by, failure_of, failure_with}
+use Rattle.cv_steps_laws.specs.crypto.Secrets.{some_asks_without_values}
+use Rattle.cv_steps_laws.specs.crypto.Sorts.{has_declared_sorts}
+use Rattle.cv_steps_laws.specs.crypto.Steps.{is_next}
+use Rattle.cv_steps_laws.proofs.crypto.Sorts.{sorts_declared}
 use Rattle.cv_steps_laws.proofs.Keeping.{IsGame, game_formed}
 
 pub record IsTested (ds : List Declaration) (next : Tree) : Type 0 where

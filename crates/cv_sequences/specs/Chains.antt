@@ -9,17 +9,17 @@ use Rattle.cv_meaning.specs.Experiments.{Experiment}
 use Rattle.cv_meaning.specs.Interpretation.{Interpretation, setting_of}
 use Rattle.cv_meaning.specs.Runs.{Adversary}
 use Rattle.cv_meaning_chances.specs.Fractions.{HasTapes}
-use Rattle.cv_meaning_contexts.specs.ContextAdvantage.{context_advantage, context_chance}
-use Rattle.cv_meaning_contexts.specs.Groups.{Left, Right}
+use Rattle.cv_meaning.specs.contexts.ContextAdvantage.{context_advantage, context_chance}
+use Rattle.cv_meaning.specs.contexts.Groups.{Left, Right}
 use Rattle.cv_bound.specs.declared.cost.Cost.{Cost as SumCost}
 use Rattle.cv_bound.specs.declared.cost.Cost.TheVariants as bound
 use Rattle.cv_bound.specs.declared.terms.Experiment.TheVariants as term
 use Rattle.cv_bound.specs.declared.terms.Term.{Term}
 use Rattle.cv_bound.specs.Sums.{added}
-use Rattle.cv_bound_values.specs.Values.{Advantages, cost_value}
+use Rattle.cv_steps.specs.values.Values.{Advantages, cost_value}
 use Rattle.cv_derive_laws.specs.stores.Costs.{bound_of}
-use Rattle.cv_group_rules.specs.Symbols.{symbols_of}
-use Rattle.cv_group_rules.specs.Faults.{IsAccepted}
+use Rattle.cv_group.specs.rules.Symbols.{symbols_of}
+use Rattle.cv_group.specs.rules.Faults.{IsAccepted}
 use Rattle.cv_typing_runs.specs.Games.{HasConstants}
 use Rattle.cv_scene.specs.Reductions.{context_of_game}
 use Rattle.cv_scene.specs.Scenes.{KnowsQueries, Scene}
@@ -35,9 +35,9 @@ use Rattle.cv_steps.specs.Judgements.{judgement_of}
 use Rattle.cv_steps.specs.Judgements as rule
 use Rattle.cv_steps.specs.Sequences.{scene}
 use Rattle.cv_steps.specs.Steps.{Collisions, Cost, Step, Zero}
-use Rattle.cv_steps_crypto.specs.Conditions.{equivalence_of}
-use Rattle.cv_steps_crypto.specs.Steps.{IsOutcome, first_answer, reduction_of}
-use Rattle.cv_steps_crypto.specs.Steps as crypto
+use Rattle.cv_steps_laws.specs.crypto.Conditions.{equivalence_of}
+use Rattle.cv_steps_laws.specs.crypto.Steps.{IsOutcome, first_answer, reduction_of}
+use Rattle.cv_steps_laws.specs.crypto.Steps as crypto
 
 -- the names of a file that has so many
 abbrev pub names_below : (own : ℕ) → ℕ → Bool

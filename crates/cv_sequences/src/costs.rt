@@ -4,7 +4,7 @@ ghost use Rattle.std.specs.Prelude.{◌≡◌, ◌↔◌, List, false};
 ghost use Rattle.cv_syntax_trees.specs.Declarations.{Declaration};
 ghost use Rattle.cv_syntax_trees.specs.Tree.{Tree};
 ghost use Rattle.cv_meaning.specs.Interpretation.{Interpretation};
-ghost use Rattle.cv_bound_values.specs.Values.{Advantages, cost_value};
+ghost use Rattle.cv_steps.specs.values.Values.{Advantages, cost_value};
 ghost use Rattle.cv_steps.specs.Chances.{KeepsChances};
 ghost use Rattle.cv_steps.specs.Costs.{cost_of};
 ghost use Rattle.cv_steps.specs.Steps.{Cost, Zero};

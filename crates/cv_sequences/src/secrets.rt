@@ -16,7 +16,7 @@ ghost use Rattle.cv_bound.specs.declared.cost.Cost.{Cost};
 ghost use Rattle.cv_bound.specs.declared.terms.Experiment.TheVariants as term;
 ghost use Rattle.cv_bound.specs.declared.terms.Term.{Term};
 ghost use Rattle.cv_bound.specs.Sums.{added};
-ghost use Rattle.cv_bound_values.specs.Values.{Advantages, sum_value};
+ghost use Rattle.cv_steps.specs.values.Values.{Advantages, sum_value};
 ghost use Rattle.cv_sequences.specs.Chains.{HaveTapedPrices, IsChain, IsFileOf, Link, Prices, costs_behind, names_below, summed};
 ghost use Rattle.cv_sequences.specs.secrets.Sums.{summed_by};
 

@@ -3,7 +3,7 @@ use Rattle.std.specs.Prelude.{ℕ, List, [], ◌∷◌, ◌++◌, map, All}
 use Rattle.cv_syntax_trees.specs.declared.head.Head.TheVariants as head
 use Rattle.cv_syntax_trees.specs.Tree.{Tree, chain}
 use Rattle.cv_pool.specs.KindTree.{KindTree}
-use Rattle.cv_names.specs.declared.names.NameId.{NameId}
+use Rattle.cv_pool.specs.declared.names.names.NameId.{NameId}
 use Rattle.cv_step_writer.specs.declared.certificates.Route.{Route}
 use Rattle.cv_step_writer.specs.declared.certificates.Route.TheVariants as route
 use Rattle.cv_step_writer.specs.declared.certificates.Entry.{Entry}

@@ -6,7 +6,7 @@ use Rattle.cv_syntax_trees.specs.Tree.{Tree, Empty, Node, chain, lone}
 use Rattle.cv_syntax.specs.PoolTrees.{tree_at}
 use Rattle.cv_pool.specs.KindTree.{KindTree}
 use Rattle.cv_pool.specs.declared.node.NodeId.{NodeId}
-use Rattle.cv_names.specs.declared.names.NameId.{NameId}
+use Rattle.cv_pool.specs.declared.names.names.NameId.{NameId}
 
 -- items as one tree: a list whose end is the last one
 abbrev pub single : List Tree → Tree

@@ -10,3 +10,4 @@ pub mod Costs
 pub mod Unletting
 pub mod Renaming
 pub mod Asked
+pub mod values

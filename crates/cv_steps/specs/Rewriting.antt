@@ -7,7 +7,7 @@ use Rattle.cv_syntax_trees.specs.Tree.{Tree, Empty, Node, size}
 use Rattle.cv_scope_rules.specs.Phrases.{Phrase, Inputs, Nil, Term, parts}
 use Rattle.cv_directory_sorts.specs.declared.sort.Sort.{Sort}
 use Rattle.cv_directory_sorts.specs.declared.sort.Sort.TheVariants.{OfType}
-use Rattle.cv_typing_rules.specs.Signature.{sort_of}
+use Rattle.cv_scope_rules.specs.typing.Signature.{sort_of}
 use Rattle.cv_scene.specs.Scenes.{Scene, part_at}
 use Rattle.cv_scene.specs.Terms.{above_at, is_sort, signature_in}
 

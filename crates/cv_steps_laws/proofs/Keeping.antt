@@ -10,8 +10,8 @@ use Rattle.cv_meaning_runs.specs.Replacement.{Process}
 use Rattle.cv_meaning.specs.Still.{defines, is_still}
 use Rattle.cv_meaning_chances.proofs.unread.Chances.{chance_without, split_chance}
 use Rattle.cv_meaning_chances.proofs.unread.PutIn.{put_in}
-use Rattle.cv_typing_rules.specs.Parts.{IsTypedGame, first_in, game_part}
-use Rattle.cv_typing_rules.proofs.First.{game_alone, parts_typed_where_none}
+use Rattle.cv_scope_rules.specs.typing.Parts.{IsTypedGame, first_in, game_part}
+use Rattle.cv_scope_rules.proofs.typing.First.{game_alone, parts_typed_where_none}
 use Rattle.cv_scope_rules.specs.Scope.{names_of}
 use Rattle.cv_scope_rules.specs.Standing.{at_root}
 use Rattle.cv_scope_rules.proofs.First.{scoped_where_none}

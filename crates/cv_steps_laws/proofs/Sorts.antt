@@ -17,7 +17,7 @@ use Rattle.cv_meaning_chances.specs.unread.Dropping.{IsDropped, same, gone, kept
 use Rattle.cv_scope_rules.specs.Context.{first_position, second_position}
 use Rattle.cv_scope_rules.specs.Phrases.{Phrase, Inputs, Arm, Body, Guards, Cells, OneCell, Term, parts, oracle_parts, both_are, is_phrase}
 use Rattle.cv_scope_runs.proofs.Rows.{position_of, placed}
-use Rattle.cv_typing_rules.specs.Signature.{function_in, declaration_of}
+use Rattle.cv_scope_rules.specs.typing.Signature.{function_in, declaration_of}
 use Rattle.cv_typing_runs.specs.Games.{HasDeclaredSorts, NamesDeclared, is_variable_cell, are_variable_cells, is_named, are_named}
 use Rattle.cv_scene.specs.Scenes.{is_type_by}
 use Rattle.cv_scene.specs.Terms.{Names, is_function, head_is_there, is_there}

@@ -2,7 +2,7 @@
 use Rattle.std.proofs.Common.{◌≡◌, ◌==◌, ◌||◌, Bool, true, false, [], ◌∷◌, None, refl, subst, eqb-true}
 use Rattle.std.proofs.lemmas.Bool.{both_ways}
 use Rattle.std.specs.List.{AllByRecursion}
-use Rattle.cv_syntax_faults.specs.Walk.{first_fault}
+use Rattle.cv_syntax.specs.faults.Walk.{first_fault}
 use Rattle.cv_syntax_trees.specs.declared.head.Head.TheVariants as head
 use Rattle.cv_syntax_trees.specs.declared.head.Head.TheVariants.{Secret, Stop, Yes}
 use Rattle.cv_syntax_trees.specs.declared.class.Class.TheVariants as class
@@ -12,8 +12,8 @@ use Rattle.cv_syntax_trees.specs.Tree.{Empty, Node, lone, size, depth, subtree, 
 use Rattle.cv_meaning_runs.specs.Replacement.{if_tree}
 use Rattle.cv_meaning.specs.Replaced.{replaced}
 use Rattle.cv_directory_sorts.specs.Sites.{first_index, first_site, bound_sort, is_untyped_in}
-use Rattle.cv_typing_rules.specs.Parts.{first_in}
-use Rattle.cv_typing_rules.specs.Typing.{binders_differ}
+use Rattle.cv_scope_rules.specs.typing.Parts.{first_in}
+use Rattle.cv_scope_rules.specs.typing.Typing.{binders_differ}
 use Rattle.cv_directory_sorts.specs.Counting.{count}
 use Rattle.cv_meaning.specs.Queries.{queries_in}
 use Rattle.cv_scope_rules.specs.Context.{context_at}

@@ -1,3 +1,4 @@
 pub mod Keeping
 pub mod Worked
 pub mod renaming
+pub mod crypto

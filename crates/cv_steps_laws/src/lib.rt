@@ -2,6 +2,7 @@
 #![tactic(auto)]
 
 pub mod chances;
+pub mod crypto;
 pub mod renaming;
 
 ghost use Rattle.std.specs.Prelude.{◌≡◌, ℕ, Bool, true};
@@ -10,7 +11,7 @@ ghost use Rattle.cv_syntax_trees.specs.Tree.{Tree};
 ghost use Rattle.cv_meaning_runs.specs.Replacement.{IsReplaced, Process};
 ghost use Rattle.cv_meaning.specs.Replaced.{is_output};
 ghost use Rattle.cv_meaning_chances.specs.unread.Dropping.{IsDropped, reads_none};
-ghost use Rattle.cv_typing_rules.specs.Parts.{IsTypedGame};
+ghost use Rattle.cv_scope_rules.specs.typing.Parts.{IsTypedGame};
 ghost use Rattle.cv_scope_rules.specs.Phrases.{Inputs, IsWellFormed, Term, is_phrase};
 ghost use Rattle.cv_typing_runs.specs.Games.{HasConstants, HasKnownNames, HasNamedFunctionsAndCells};
 ghost use Rattle.cv_scene.specs.Pruning.{Part};

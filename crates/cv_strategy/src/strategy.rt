@@ -4,10 +4,10 @@ ghost use Rattle.cv_step_writer.specs.Proposals.{IsProposalBelow};
 ghost use Rattle.cv_strategy.specs.declared.strategy.Phase.TheVariants.{Settling};
 ghost use Rattle.cv_strategy.specs.Phases.{phase_behind};
 
+use crate::moves::suggest as suggest_move;
 use cv_bound::closings::ClosedQueries;
 use cv_direct::Proposer;
 use cv_grounds::nodes_up_to;
-use cv_moves::suggest as suggest_move;
 use cv_settling::suggest as suggest_settling;
 use cv_step_writer::Proposal;
 use cv_syntax::{Decls, NodeId, Pool, PoolError, query_at};

@@ -9,3 +9,4 @@ pub mod Walks
 pub mod limits
 pub mod parts
 pub mod listing
+pub mod faults

@@ -7,7 +7,7 @@ ghost use Rattle.cv_pool.specs.Nodes.{ChildBelow};
 ghost use Rattle.cv_syntax.specs.PoolTrees.{tree_at};
 
 use crate::open::read_node;
-use cv_names::NameId;
+use cv_pool::names::NameId;
 use cv_pool::{NodeId, Pool};
 use cv_syntax_trees::{Class, Head};
 use std::alloc::{AllocError, Global};

@@ -5,6 +5,7 @@ mod building;
 pub mod children;
 mod compare;
 mod decls;
+pub mod faults;
 pub mod filling;
 mod kind;
 mod layout;
@@ -19,7 +20,7 @@ mod work;
 
 pub use building::{build, built_children};
 pub use compare::same;
-pub use cv_names::{NameError, NameId, Names};
+pub use cv_pool::names::{NameError, NameId, Names};
 pub use cv_pool::{Kind, Mark, NodeId, Pool, PoolError};
 pub use cv_syntax_trees::{Class, Code, Head};
 pub use decls::{Decl, Decls, query_at};

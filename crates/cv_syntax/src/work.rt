@@ -1,7 +1,7 @@
 ghost use Rattle.std.specs.Prelude.{◌≡◌, []};
 
 use crate::decls::Decls;
-use cv_names::Names;
+use cv_pool::names::Names;
 use cv_pool::{NodeId, Pool};
 use std::alloc::Global;
 

@@ -4,20 +4,20 @@ use Rattle.std.specs.Prelude.{slice_get}
 use Rattle.cv_syntax_trees.specs.declared.head.Head.{Head}
 use Rattle.cv_syntax_trees.specs.Declarations.{Declaration}
 use Rattle.cv_syntax_trees.specs.Tree.{Tree, Empty, Node, first, second, size}
-use Rattle.cv_typing_rules.specs.declared.fault.Fault.{Fault}
-use Rattle.cv_typing_rules.specs.declared.fault.Fault.TheVariants as fault
-use Rattle.cv_typing_rules.specs.declared.fault.TypeFault.{TypeFault}
-use Rattle.cv_typing_rules.specs.declared.fault.TypeFault.TheVariants as refused
-use Rattle.cv_typing_rules.specs.declared.form.Form.TheVariants.{InBody}
+use Rattle.cv_scope_rules.specs.declared.typing.fault.Fault.{Fault}
+use Rattle.cv_scope_rules.specs.declared.typing.fault.Fault.TheVariants as fault
+use Rattle.cv_scope_rules.specs.declared.typing.fault.TypeFault.{TypeFault}
+use Rattle.cv_scope_rules.specs.declared.typing.fault.TypeFault.TheVariants as refused
+use Rattle.cv_scope_rules.specs.declared.typing.form.Form.TheVariants.{InBody}
 use Rattle.cv_directory_sorts.specs.declared.sort.Sort.{Sort}
-use Rattle.cv_typing_rules.specs.Parts.{Part, signature_of, first_in, body_parts, first_result, in_function, more_results, names_of, results}
-use Rattle.cv_typing_rules.specs.Refusals.{IsChecked, IsRefusalOf, parts_size}
-use Rattle.cv_typing_rules.specs.Signature.{Above, Arrays, OfGame, OfNothing, OfSide, Signature, sort_of}
+use Rattle.cv_scope_rules.specs.typing.Parts.{Part, signature_of, first_in, body_parts, first_result, in_function, more_results, names_of, results}
+use Rattle.cv_scope_rules.specs.typing.Refusals.{IsChecked, IsRefusalOf, parts_size}
+use Rattle.cv_scope_rules.specs.typing.Signature.{Above, Arrays, OfGame, OfNothing, OfSide, Signature, sort_of}
 use Rattle.cv_directory_sorts.specs.Sites.{first_of}
-use Rattle.cv_typing_rules.specs.Typing.{first_fault}
-use Rattle.cv_typing_rules.specs.Wants.{Run}
+use Rattle.cv_scope_rules.specs.typing.Typing.{first_fault}
+use Rattle.cv_scope_rules.specs.typing.Wants.{Run}
 use Rattle.cv_typing.proofs.Files.{part_refused, part_step, parts_end}
-use Rattle.cv_typing_rules.proofs.Steps.{refused_as}
+use Rattle.cv_scope_rules.proofs.typing.Steps.{refused_as}
 
 -- one part alone is checked
 pub walk_checked : (ds : List Declaration) (p : ℕ) (part : Part) (m : Option (ℕ × Fault)) (r : Result ℕ TypeFault) → m ≡ first_fault (signature_of ds part) part.above part.want p part.tree → OnOk r (m ≡ None) → IfOk r (λ n. n ≡ p + size part.tree) → IfErr r (IsRefusalOf m) → IsChecked ds p (part ∷ []) r

@@ -13,8 +13,8 @@ use Rattle.cv_pool.specs.KindTree.{KindTree}
 use Rattle.cv_typing.specs.declared.function.Callee.{Callee}
 use Rattle.cv_pool.specs.Nodes.{ChildBelow}
 use Rattle.cv_typing.specs.Lookups.{callee_by, callee_in, event_args_by, event_args_in, fixed_decl, function_at, HasLiveArguments}
-use Rattle.cv_typing_rules.specs.Signature.{declaration_of, function_by, function_in, event_by, event_in, fixed_by, is_fixed_in, names_in}
-use Rattle.cv_typing_rules.proofs.Counts.{names_end}
+use Rattle.cv_scope_rules.specs.typing.Signature.{declaration_of, function_by, function_in, event_by, event_in, fixed_by, is_fixed_in, names_in}
+use Rattle.cv_scope_rules.proofs.typing.Counts.{names_end}
 use Rattle.cv_syntax.proofs.Trees.{tree_at_None}
 
 pub declaration_same : (trees : List KindTree) (ds : List Decl) (x : ℕ) → declaration_of (declarations trees ds) x ≡ option_map (declared trees) (declaration_in ds x)

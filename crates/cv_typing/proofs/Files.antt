@@ -9,19 +9,19 @@ use Rattle.cv_syntax.specs.Classes.{declaration_in, args_by}
 use Rattle.cv_syntax_trees.specs.Declarations.{Declaration}
 use Rattle.cv_syntax_trees.specs.Tree.{size}
 use Rattle.cv_pool.specs.Nodes.{ChildBelow}
-use Rattle.cv_typing_rules.specs.declared.fault.Fault.{Fault}
-use Rattle.cv_typing_rules.specs.declared.fault.Fault.TheVariants as fault
-use Rattle.cv_typing_rules.specs.declared.fault.TypeFault.{TypeFault}
-use Rattle.cv_typing_rules.specs.declared.fault.TypeFault.TheVariants as refused
+use Rattle.cv_scope_rules.specs.declared.typing.fault.Fault.{Fault}
+use Rattle.cv_scope_rules.specs.declared.typing.fault.Fault.TheVariants as fault
+use Rattle.cv_scope_rules.specs.declared.typing.fault.TypeFault.{TypeFault}
+use Rattle.cv_scope_rules.specs.declared.typing.fault.TypeFault.TheVariants as refused
 use Rattle.cv_directory_sorts.specs.declared.sort.Sort.{Sort}
 use Rattle.cv_typing.specs.Lookups.{HasLiveArguments}
 use Rattle.cv_directory.specs.Live.{IsLive}
-use Rattle.cv_typing_rules.specs.Parts.{Part, IsTypedPart, signature_of, first_in, nothing_above}
-use Rattle.cv_typing_rules.specs.Refusals.{IsFirstRefusal, IsRefusalOf}
+use Rattle.cv_scope_rules.specs.typing.Parts.{Part, IsTypedPart, signature_of, first_in, nothing_above}
+use Rattle.cv_scope_rules.specs.typing.Refusals.{IsFirstRefusal, IsRefusalOf}
 use Rattle.cv_directory_sorts.specs.Sites.{first_of}
 use Rattle.cv_typing.specs.Tables.{Map, above_of}
-use Rattle.cv_typing_rules.specs.Typing.{first_fault}
-use Rattle.cv_typing_rules.proofs.First.{finds_first_in, parts_typed_where_none, game_alone}
+use Rattle.cv_scope_rules.specs.typing.Typing.{first_fault}
+use Rattle.cv_scope_rules.proofs.typing.First.{finds_first_in, parts_typed_where_none, game_alone}
 
 first_of_none : {A : Type 0} (a b : Option A) → a ≡ None → first_of a b ≡ b
 first_of_none None b e = refl

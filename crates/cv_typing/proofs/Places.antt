@@ -5,11 +5,11 @@ use Rattle.cv_syntax_trees.specs.declared.head.Head.TheVariants.{Cons}
 use Rattle.cv_syntax_trees.specs.Declarations.{Declaration}
 use Rattle.cv_pool.specs.KindTree.{KindTree}
 use Rattle.cv_typing.specs.declared.arrays.Arrays.{Arrays}
-use Rattle.cv_typing_rules.specs.declared.form.Form.{Form}
-use Rattle.cv_typing_rules.specs.declared.want.Want.{Want}
-use Rattle.cv_typing_rules.specs.declared.want.Want.TheVariants.{Run, Branches, Correspondence, Atoms}
+use Rattle.cv_scope_rules.specs.declared.typing.form.Form.{Form}
+use Rattle.cv_scope_rules.specs.declared.typing.want.Want.{Want}
+use Rattle.cv_scope_rules.specs.declared.typing.want.Want.TheVariants.{Run, Branches, Correspondence, Atoms}
 use Rattle.cv_typing.specs.Lookups.{want_of}
-use Rattle.cv_typing_rules.specs.Wants.{list_wants, place_wants}
+use Rattle.cv_scope_rules.specs.typing.Wants.{list_wants, place_wants}
 
 pub place_list : (trees : List KindTree) (r : Arrays) (ds : List Declaration) (w : Want) (h : Head) → h ≡ Cons → ((f : Form) → w ≡ Run f → ⊥) → ((f : Form) → w ≡ Branches f → ⊥) → (w ≡ Correspondence → ⊥) → (w ≡ Atoms → ⊥) → list_wants (want_of trees r w) ≡ place_wants ds (want_of trees r w) h
 place_list trees r ds w h e a b c d = step w a b c d ∙ sym (ap (place_wants ds (want_of trees r w)) e)

@@ -9,13 +9,13 @@ use Rattle.cv_syntax_trees.specs.Declarations.{Declaration}
 use Rattle.cv_syntax.specs.Declarations.{declared, declarations}
 use Rattle.cv_syntax_trees.specs.Tree.{Tree, Node, first, second}
 use Rattle.cv_pool.specs.KindTree.{KindTree}
-use Rattle.cv_typing_rules.specs.declared.fault.Fault.{Fault}
-use Rattle.cv_typing_rules.specs.declared.fault.TypeFault.{TypeFault}
+use Rattle.cv_scope_rules.specs.declared.typing.fault.Fault.{Fault}
+use Rattle.cv_scope_rules.specs.declared.typing.fault.TypeFault.{TypeFault}
 use Rattle.cv_directory_sorts.specs.declared.sort.Sort.{Sort}
-use Rattle.cv_typing_rules.specs.Parts.{Part, AreTyped, first_in, body_parts, declaration_parts, equivalence_parts, file_parts, game_part, results, side_arrays}
-use Rattle.cv_typing_rules.specs.Refusals.{IsChecked, IsRefusalOf}
-use Rattle.cv_typing_rules.specs.Signature.{Arrays}
-use Rattle.cv_typing_rules.proofs.First.{parts_typed_where_none}
+use Rattle.cv_scope_rules.specs.typing.Parts.{Part, AreTyped, first_in, body_parts, declaration_parts, equivalence_parts, file_parts, game_part, results, side_arrays}
+use Rattle.cv_scope_rules.specs.typing.Refusals.{IsChecked, IsRefusalOf}
+use Rattle.cv_scope_rules.specs.typing.Signature.{Arrays}
+use Rattle.cv_scope_rules.proofs.typing.First.{parts_typed_where_none}
 use Rattle.cv_typing.proofs.Parameters.{drop_none, drop_some}
 
 -- the two sides of an equivalence

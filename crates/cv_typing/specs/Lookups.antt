@@ -11,12 +11,12 @@ use Rattle.cv_pool.specs.KindTree.{KindTree}
 use Rattle.cv_pool.specs.Nodes.{ChildBelow}
 use Rattle.cv_typing.specs.declared.arrays.Arrays.{Arrays}
 use Rattle.cv_typing.specs.declared.function.Callee.{Callee}
-use Rattle.cv_typing_rules.specs.declared.want.Want.{Want}
-use Rattle.cv_typing_rules.specs.declared.want.Want.TheVariants as asked
-use Rattle.cv_typing_rules.specs.Signature.{Signature, Function, names_in, variable_in}
+use Rattle.cv_scope_rules.specs.declared.typing.want.Want.{Want}
+use Rattle.cv_scope_rules.specs.declared.typing.want.Want.TheVariants as asked
+use Rattle.cv_scope_rules.specs.typing.Signature.{Signature, Function, names_in, variable_in}
 use Rattle.cv_directory_sorts.specs.Sites.{Variable}
 use Rattle.cv_typing.specs.Tables.{arrays_of}
-use Rattle.cv_typing_rules.specs.Wants as wants
+use Rattle.cv_scope_rules.specs.typing.Wants as wants
 
 -- the lists of arguments are live
 abbrev pub HasLiveArguments : ℕ → List Decl → Type 0

@@ -10,12 +10,12 @@ use Rattle.cv_typing.specs.declared.arrays.Arrays.{Arrays}
 use Rattle.cv_typing.specs.declared.arrays.Arrays.TheVariants as held
 use Rattle.cv_typing.specs.declared.locals.Locals.{Locals}
 use Rattle.cv_typing.specs.declared.locals.Own.{Own}
-use Rattle.cv_typing_rules.specs.Signature as signature
-use Rattle.cv_typing_rules.specs.Signature.{Above}
+use Rattle.cv_scope_rules.specs.typing.Signature as signature
+use Rattle.cv_scope_rules.specs.typing.Signature.{Above}
 use Rattle.cv_directory.specs.declared.directory.Directory.{Directory}
 use Rattle.cv_directory.specs.Tables.{seen}
 use Rattle.cv_directory_sorts.specs.Sites.{first_of}
-use Rattle.cv_typing_rules.specs.Parts.{bound_at, local_here, local_in, own_sort, sort_by_bound}
+use Rattle.cv_scope_rules.specs.typing.Parts.{bound_at, local_here, local_in, own_sort, sort_by_bound}
 
 abbrev pub Map : Type 0 → Type 0
 Map X = HashMap ℕ X (BuildHasherDefault FoldHasher)

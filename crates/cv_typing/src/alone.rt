@@ -6,19 +6,19 @@ ghost use Rattle.cv_directory_sorts.specs.Sites.{sites_of};
 ghost use Rattle.cv_directory.specs.Tables.{seen};
 ghost use Rattle.cv_typing.specs.Lookups.{signature_in};
 ghost use Rattle.cv_directory.specs.Live.{IsLive};
-ghost use Rattle.cv_typing_rules.specs.Parts.{game_part, nothing_above, signature_of};
+ghost use Rattle.cv_scope_rules.specs.typing.Parts.{game_part, nothing_above, signature_of};
 ghost use Rattle.cv_typing.specs.Tables.{above_of};
-ghost use Rattle.cv_typing_rules.specs.Typing.{first_fault};
-ghost use Rattle.cv_typing_rules.specs.Wants.{AnyTerm, Run};
-ghost use Rattle.cv_typing_rules.specs.declared.form.Form.TheVariants.{InProcess};
+ghost use Rattle.cv_scope_rules.specs.typing.Typing.{first_fault};
+ghost use Rattle.cv_scope_rules.specs.typing.Wants.{AnyTerm, Run};
+ghost use Rattle.cv_scope_rules.specs.declared.typing.form.Form.TheVariants.{InProcess};
 
 use crate::arrays::Arrays;
 use crate::checking::check_process;
 use crate::walk::walk;
 use cv_directory::Directory;
 use cv_directory_sorts::Sort;
+use cv_scope_rules::typing::Want;
 use cv_syntax::{NodeId, Work};
-use cv_typing_rules::Want;
 use std::alloc::{AllocError, Global};
 use std::collections::HashMap;
 

@@ -2,8 +2,8 @@ ghost use Rattle.std.specs.Prelude.{◌≡◌, ◌<◌, ◌^◌, ◌+◌, length
 ghost use Rattle.cv_pool.specs.Nodes.{ChildBelow};
 ghost use Rattle.cv_syntax.specs.PoolTrees.{tree_at};
 ghost use Rattle.cv_directory_sorts.specs.Sites.{Variable};
-ghost use Rattle.cv_typing_rules.specs.Parts.{in_function};
-ghost use Rattle.cv_typing_rules.specs.Signature.{defined_sort, index_in, variable_in, variable_sort as sort_of_variable};
+ghost use Rattle.cv_scope_rules.specs.typing.Parts.{in_function};
+ghost use Rattle.cv_scope_rules.specs.typing.Signature.{defined_sort, index_in, variable_in, variable_sort as sort_of_variable};
 ghost use Rattle.cv_typing.specs.Tables.{arrays_of, directory_in};
 
 use crate::locals::{Locals, own_names};

@@ -5,17 +5,17 @@ ghost use Rattle.cv_syntax.specs.Declarations.{declarations};
 ghost use Rattle.cv_syntax.specs.PoolTrees.{tree_at};
 ghost use Rattle.cv_typing.specs.declared.arrays.Arrays.{Arrays};
 ghost use Rattle.cv_typing.specs.Lookups.{AreLiveWants, HasLiveArguments, IsLiveWant, both_wants, signature_in, want_of};
-ghost use Rattle.cv_typing_rules.specs.Signature.{event_in, function_in, names_in};
-ghost use Rattle.cv_typing_rules.specs.declared.want.Want.TheVariants.{Indices};
+ghost use Rattle.cv_scope_rules.specs.typing.Signature.{event_in, function_in, names_in};
+ghost use Rattle.cv_scope_rules.specs.declared.typing.want.Want.TheVariants.{Indices};
 ghost use Rattle.cv_typing.specs.Tables.{above_of, arrays_of};
-ghost use Rattle.cv_typing_rules.specs.Wants as wants;
+ghost use Rattle.cv_scope_rules.specs.typing.Wants as wants;
 
 use crate::arrays::Arrays;
 use crate::function::{event_arguments, find_function};
 use crate::terms::sort_of_term;
 use cv_directory_sorts::Sort;
+use cv_scope_rules::typing::{Form, Want};
 use cv_syntax::{Decls, Head, NodeId, Opened, Pool, read_node};
-use cv_typing_rules::{Form, Want};
 use std::collections::HashMap;
 
 /// A term of a sort, or any term where it isn't known.

@@ -6,15 +6,15 @@ ghost use Rattle.cv_directory_sorts.specs.Sites.{sites_of};
 ghost use Rattle.cv_directory.specs.Tables.{seen};
 ghost use Rattle.cv_typing.specs.Lookups.{HasLiveArguments};
 ghost use Rattle.cv_directory.specs.Live.{IsLive};
-ghost use Rattle.cv_typing_rules.specs.Parts.{IsTypedFile, IsTypedGame, file_parts, first_in, game_part};
-ghost use Rattle.cv_typing_rules.specs.Refusals.{IsFirstRefusal, IsRefusalOf, parts_size};
+ghost use Rattle.cv_scope_rules.specs.typing.Parts.{IsTypedFile, IsTypedGame, file_parts, first_in, game_part};
+ghost use Rattle.cv_scope_rules.specs.typing.Refusals.{IsFirstRefusal, IsRefusalOf, parts_size};
 
 use crate::arrays::Arrays;
 use crate::parts::check_declaration;
 use crate::walk::walk;
 use cv_directory::Directory;
+use cv_scope_rules::typing::{Form, TypeFault, Want};
 use cv_syntax::{Decls, File, Game, NodeId, Pool, Work};
-use cv_typing_rules::{Form, TypeFault, Want};
 use std::alloc::Global;
 use std::collections::HashMap;
 

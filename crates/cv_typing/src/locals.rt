@@ -2,16 +2,16 @@ ghost use Rattle.std.specs.Prelude.{◌≡◌, ◌<◌, length, IfOk, OnOk};
 ghost use Rattle.cv_pool.specs.Nodes.{ChildBelow};
 ghost use Rattle.cv_syntax_trees.specs.Tree.{first as first_child, second};
 ghost use Rattle.cv_syntax.specs.PoolTrees.{tree_at};
-ghost use Rattle.cv_typing_rules.specs.declared.precedence.Precedence.TheVariants.{First};
-ghost use Rattle.cv_typing_rules.specs.Parts.{bound_at as bound, own_sort, sort_by_bound, with_taken};
+ghost use Rattle.cv_scope_rules.specs.declared.typing.precedence.Precedence.TheVariants.{First};
+ghost use Rattle.cv_scope_rules.specs.typing.Parts.{bound_at as bound, own_sort, sort_by_bound, with_taken};
 ghost use Rattle.cv_typing.specs.Tables.{above_of, locals_of, with_body, with_function, with_functions, with_here};
-ghost use Rattle.cv_typing_rules.specs.Wants.{bound as with_bound};
+ghost use Rattle.cv_scope_rules.specs.typing.Wants.{bound as with_bound};
 
 use crate::above::bind_all;
 use cv_directory_sorts::Sort;
+use cv_scope_rules::typing::Precedence;
 use cv_syntax::children::{first_of, second_of};
 use cv_syntax::{Head, NodeId, Pool, read_node};
-use cv_typing_rules::Precedence;
 use std::alloc::{AllocError, Global};
 use std::collections::HashMap;
 

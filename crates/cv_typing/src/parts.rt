@@ -4,8 +4,8 @@ ghost use Rattle.cv_syntax.specs.Declarations.{declarations, declared};
 ghost use Rattle.cv_syntax.specs.PoolTrees.{tree_at};
 ghost use Rattle.cv_typing.specs.Lookups.{HasLiveArguments, signature_in};
 ghost use Rattle.cv_directory.specs.Live.{IsLive};
-ghost use Rattle.cv_typing_rules.specs.Parts.{body_parts, declaration_parts, equation_part, equivalence_parts, first_result, local_names, names_of, query_part, results, side_arrays};
-ghost use Rattle.cv_typing_rules.specs.Refusals.{IsChecked, parts_size};
+ghost use Rattle.cv_scope_rules.specs.typing.Parts.{body_parts, declaration_parts, equation_part, equivalence_parts, first_result, local_names, names_of, query_part, results, side_arrays};
+ghost use Rattle.cv_scope_rules.specs.typing.Refusals.{IsChecked, parts_size};
 ghost use Rattle.cv_typing.specs.Tables.{above_of, arrays_of};
 
 use crate::above::bind_all;
@@ -14,9 +14,9 @@ use crate::locals::{Locals, bind_taken};
 use crate::terms::sort_of_term;
 use crate::walk::walk;
 use cv_directory_sorts::Sort;
+use cv_scope_rules::typing::{Form, Precedence, TypeFault, Want};
 use cv_syntax::children::{first_of, second_of};
 use cv_syntax::{Decl, Decls, NodeId, Pool, read_node};
-use cv_typing_rules::{Form, Precedence, TypeFault, Want};
 use std::alloc::{AllocError, Global};
 use std::collections::HashMap;
 

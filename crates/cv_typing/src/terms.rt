@@ -4,7 +4,7 @@ ghost use Rattle.cv_syntax.specs.PoolTrees.{tree_at};
 ghost use Rattle.cv_syntax.specs.Declarations.{declarations};
 ghost use Rattle.cv_pool.specs.KindTree.{KindTree};
 ghost use Rattle.cv_typing.specs.Lookups.{HasLiveArguments, signature_in};
-ghost use Rattle.cv_typing_rules.specs.Signature as signature;
+ghost use Rattle.cv_scope_rules.specs.typing.Signature as signature;
 ghost use Rattle.cv_directory_sorts.specs.declared.sort.Sort.TheVariants.{OfType};
 ghost use Rattle.cv_typing.specs.Tables.{above_of, arrays_of};
 

@@ -3,17 +3,17 @@ ghost use Rattle.cv_pool.specs.Nodes.{ChildBelow};
 ghost use Rattle.cv_syntax_trees.specs.Tree.{size};
 ghost use Rattle.cv_syntax.specs.PoolTrees.{tree_at};
 ghost use Rattle.cv_typing.specs.Lookups.{HasLiveArguments, IsLiveWant, signature_in, want_of};
-ghost use Rattle.cv_typing_rules.specs.Refusals.{IsRefusalOf};
+ghost use Rattle.cv_scope_rules.specs.typing.Refusals.{IsRefusalOf};
 ghost use Rattle.cv_typing.specs.Tables.{above_of};
-ghost use Rattle.cv_typing_rules.specs.Typing.{first_fault};
+ghost use Rattle.cv_scope_rules.specs.typing.Typing.{first_fault};
 
 use crate::above::{bind_names, unbind};
 use crate::arrays::Arrays;
 use crate::below::{binds, wants_below};
 use crate::faults::own_fault;
 use cv_directory_sorts::Sort;
+use cv_scope_rules::typing::{TypeFault, Want};
 use cv_syntax::{Decls, NodeId, Pool, read_node};
-use cv_typing_rules::{TypeFault, Want};
 use std::alloc::Global;
 use std::collections::HashMap;
 

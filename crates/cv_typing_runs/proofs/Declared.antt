@@ -8,7 +8,7 @@ use Rattle.cv_syntax_trees.specs.declared.class.Class.TheVariants as class
 use Rattle.cv_syntax_trees.specs.Declarations.{Declaration, Named, Equation, Equiv, Query}
 use Rattle.cv_syntax_trees.specs.Tree.{Tree, Empty, Node, names}
 use Rattle.cv_meaning.specs.Interpretation.{is_constant_of}
-use Rattle.cv_typing_rules.specs.Signature.{Function, declaration_of, function_by, function_in, names_in}
+use Rattle.cv_scope_rules.specs.typing.Signature.{Function, declaration_of, function_by, function_in, names_in}
 use Rattle.cv_typing_runs.specs.Games.{HasArguments}
 
 pub head_in : (ds : List Declaration) (d : Declaration) → Contains (d ∷ ds) d

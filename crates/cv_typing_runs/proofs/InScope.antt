@@ -2,14 +2,14 @@
 use Rattle.std.proofs.Common.{◌≡◌, ℕ, Bool, true, List, [], ◌∷◌, ◌++◌, map, ◌⊎◌, inl, inr, is_some, Option, refl, ap, sym, subst}
 use Rattle.std.proofs.lemmas.Bool.{and_from, and_parts, or_left, or_right}
 use Rattle.std.specs.List.{AllByRecursion}
-use Rattle.cv_syntax_faults.specs.Walk.{IsObeyed}
+use Rattle.cv_syntax.specs.faults.Walk.{IsObeyed}
 use Rattle.cv_syntax_trees.specs.declared.head.Head.{Head}
 use Rattle.cv_syntax_trees.specs.declared.head.Head.TheVariants.{Apply, Branch, Call, Cons, Event, If, In, Key, Leaf, Let, New, Read, Repl}
 use Rattle.cv_syntax_trees.specs.Declarations.{Declaration}
 use Rattle.cv_syntax_trees.specs.Tree.{Tree, Empty, Node, second, first_place, second_place}
 use Rattle.cv_meaning.specs.Binders.{bound_names}
 use Rattle.cv_directory_sorts.specs.Sites.{Variable, first_site}
-use Rattle.cv_typing_rules.specs.Signature.{function_in}
+use Rattle.cv_scope_rules.specs.typing.Signature.{function_in}
 use Rattle.cv_scope_rules.specs.declared.fault.Fault.TheVariants.{Unscoped}
 use Rattle.cv_scope_rules.specs.declared.position.Position.{Position}
 use Rattle.cv_scope_rules.specs.declared.position.Position.TheVariants.{Anywhere, Bodies, Cells, ElseBody, Guarded, Guards, OneCell}

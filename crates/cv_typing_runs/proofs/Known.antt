@@ -9,7 +9,7 @@ use Rattle.std.specs.Prelude.{List}
 use Rattle.cv_meaning_laws.specs.adequacy.Typed.{Scope}
 use Rattle.cv_scope_rules.specs.Context.{replications_below}
 use Rattle.cv_scope_rules.specs.Rules.{is_index}
-use Rattle.cv_typing_rules.specs.Signature.{function_in}
+use Rattle.cv_scope_rules.specs.typing.Signature.{function_in}
 use Rattle.cv_typing_runs.specs.Games.{are_known, is_known}
 use Rattle.cv_lists.proofs.Tests.{or_cases}
 

@@ -6,21 +6,21 @@ use Rattle.std.specs.List.{AllByRecursion}
 use Rattle.cv_syntax_trees.specs.declared.head.Head.TheVariants.{And, Apply, Binder, Branch, Cons, Eq, Event, Find, If, In, Leaf, Let, New, No, Not, Or, Out, Par, Read, Repl, Stop, Yes, Yield}
 use Rattle.cv_syntax_trees.specs.Declarations.{Declaration}
 use Rattle.cv_syntax_trees.specs.Tree.{Tree, Empty, Node, first, second, first_place, second_place}
-use Rattle.cv_syntax_faults.specs.Walk.{IsObeyed}
+use Rattle.cv_syntax.specs.faults.Walk.{IsObeyed}
 use Rattle.cv_meaning.specs.Interpretation.{is_constant_of}
 use Rattle.cv_meaning_laws.specs.adequacy.Typed as meaning
 use Rattle.cv_meaning_laws.specs.adequacy.Typed.{AreBranches, AreVariables, HasSort, HaveSomeSorts, HasTypedRestrictions, IsVariable, Scope, parameter_in, IsTyped as MeansTyped}
 use Rattle.cv_scope_rules.specs.Sites.{channel_here, sites_from, sites_here, variable_sites}
 use Rattle.cv_scope_rules.specs.Phrases.{Phrase, Arm, Binders, Body, Branches as BranchesPhrase, Cells, Else, Guarded as GuardedPhrase, Guards, Indices, Inputs, Message as MessagePhrase, Nil, OneCell, Pattern, Term, Terms, Then, binds_none, is_phrase}
-use Rattle.cv_typing_rules.specs.declared.form.Form.TheVariants.{InProcess}
-use Rattle.cv_typing_rules.specs.declared.precedence.Precedence.TheVariants.{First}
+use Rattle.cv_scope_rules.specs.declared.typing.form.Form.TheVariants.{InProcess}
+use Rattle.cv_scope_rules.specs.declared.typing.precedence.Precedence.TheVariants.{First}
 use Rattle.cv_directory_sorts.specs.declared.sort.Sort.{Sort}
 use Rattle.cv_directory_sorts.specs.declared.sort.Sort.TheVariants.{BelowParameter, OfType}
-use Rattle.cv_typing_rules.specs.Signature.{Above, OfGame, Signature, boolean, variable_sort}
+use Rattle.cv_scope_rules.specs.typing.Signature.{Above, OfGame, Signature, boolean, variable_sort}
 use Rattle.cv_directory_sorts.specs.Sites.{Variable, first_of, first_site, sites_of}
-use Rattle.cv_typing_rules.specs.Typing.{IsTyped, binders_differ}
+use Rattle.cv_scope_rules.specs.typing.Typing.{IsTyped, binders_differ}
 use Rattle.cv_directory_sorts.specs.Sorts.{differs_from}
-use Rattle.cv_typing_rules.specs.Wants.{AllMessages, Branches, EachTerm, Guarded, Message, Of, Run, Sent, Tested, Want, above_second, bound, wants}
+use Rattle.cv_scope_rules.specs.typing.Wants.{AllMessages, Branches, EachTerm, Guarded, Message, Of, Run, Sent, Tested, Want, above_second, bound, wants}
 use Rattle.cv_typing_runs.specs.Games.{HasArguments, context_of, has_site, sort_of_meaning, variable_of_meaning}
 use Rattle.cv_typing_runs.proofs.Known.{AreKnown}
 use Rattle.cv_typing_runs.proofs.SameSites.{Agrees, Stands, input_binders}

@@ -1,14 +1,14 @@
 -- The worked games meet the premises, or do not.
 use Rattle.std.proofs.Common.{true, false, [], inl, inr, None, refl}
 use Rattle.std.proofs.lemmas.Bool.{both_ways}
-use Rattle.cv_syntax_faults.specs.Walk.{first_fault}
+use Rattle.cv_syntax.specs.faults.Walk.{first_fault}
 use Rattle.cv_syntax_trees.specs.Tree.{Empty, size, same_tree}
 use Rattle.cv_directory_sorts.specs.Sites.{bound_sort, first_index, first_site}
-use Rattle.cv_typing_rules.specs.Parts.{IsTypedGame, game_part, signature_of}
-use Rattle.cv_typing_rules.specs.Signature.{names_in}
+use Rattle.cv_scope_rules.specs.typing.Parts.{IsTypedGame, game_part, signature_of}
+use Rattle.cv_scope_rules.specs.typing.Signature.{names_in}
 use Rattle.cv_directory_sorts.specs.Counting.{count}
-use Rattle.cv_typing_rules.specs.Typing.{binders_differ}
-use Rattle.cv_typing_rules.proofs.First.{typed_where_none}
+use Rattle.cv_scope_rules.specs.typing.Typing.{binders_differ}
+use Rattle.cv_scope_rules.proofs.typing.First.{typed_where_none}
 use Rattle.cv_scope_rules.specs.Sites.{sites_from}
 use Rattle.cv_scope_rules.specs.Standing.{at_root}
 use Rattle.cv_scope_rules.specs.Scope.{is_untyped_in, names_of}

@@ -20,7 +20,7 @@ use Rattle.cv_scope_rules.specs.declared.position.Position.TheVariants.{Anywhere
 use Rattle.cv_scope_rules.specs.Context.{first_position, replications_below, second_position}
 use Rattle.cv_directory_sorts.specs.declared.sort.Sort.{Sort}
 use Rattle.cv_directory_sorts.specs.declared.sort.Sort.TheVariants.{BelowParameter, OfType}
-use Rattle.cv_typing_rules.specs.Signature.{function_in, names_in}
+use Rattle.cv_scope_rules.specs.typing.Signature.{function_in, names_in}
 use Rattle.cv_directory_sorts.specs.Sites.{Variable, first_site}
 
 -- the parameters of replications

@@ -9,7 +9,7 @@ ghost use Rattle.cv_meaning.specs.Runs.{Adversary, Mode};
 ghost use Rattle.cv_meaning.specs.Satisfies.{Satisfies};
 ghost use Rattle.cv_meaning_laws.specs.adequacy.Typed.{HasTypedRestrictions, IsModel, IsTyped};
 ghost use Rattle.cv_scope_rules.specs.Phrases.{IsWellFormed};
-ghost use Rattle.cv_typing_rules.specs.Parts.{IsTypedGame};
+ghost use Rattle.cv_scope_rules.specs.typing.Parts.{IsTypedGame};
 ghost use Rattle.cv_typing_runs.specs.Worked.{declared, found_game, nameless_game};
 ghost use Rattle.cv_typing_runs.specs.Games.{HasArguments, HasConstants, HasDeclaredSorts, HasKnownNames, HasNamedFunctionsAndCells, HasTypedRuns, context_of};
 

@@ -1,3 +1,4 @@
 pub mod Clap
 pub mod Forms
 pub mod Words
+pub mod sample

@@ -3,6 +3,7 @@
 
 mod app;
 mod laws;
+pub mod sample;
 mod words;
 
 pub use laws::plain_forms_are_read;

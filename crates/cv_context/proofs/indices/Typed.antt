@@ -6,15 +6,15 @@ use Rattle.cv_syntax_trees.specs.declared.head.Head.{Head}
 use Rattle.cv_syntax_trees.specs.declared.head.Head.TheVariants.{And, Apply, Branch, Cons, Eq, Event, Find, If, In, Leaf, Let, New, No, Not, Occurs, OccursOnce, Or, Out, Par, Query, Read, Repl, Yes}
 use Rattle.cv_syntax_trees.specs.Declarations.{Declaration}
 use Rattle.cv_syntax_trees.specs.Tree.{Tree, Empty, Node}
-use Rattle.cv_syntax_faults.specs.Walk.{IsObeyed}
+use Rattle.cv_syntax.specs.faults.Walk.{IsObeyed}
 use Rattle.cv_directory_sorts.specs.declared.sort.Sort.{Sort}
 use Rattle.cv_directory_sorts.specs.declared.sort.Sort.TheVariants.{BelowParameter, OfType}
 use Rattle.cv_directory_sorts.specs.Sites.{Variable, first_index, first_of, first_site, sites_of}
-use Rattle.cv_typing_rules.specs.declared.form.Form.TheVariants.{InBody, InProcess}
-use Rattle.cv_typing_rules.specs.Signature.{Above, Function, OfGame, Signature, function_in, is_arity, leaf_sort, sort_of, variable_sort}
+use Rattle.cv_scope_rules.specs.declared.typing.form.Form.TheVariants.{InBody, InProcess}
+use Rattle.cv_scope_rules.specs.typing.Signature.{Above, Function, OfGame, Signature, function_in, is_arity, leaf_sort, sort_of, variable_sort}
 use Rattle.cv_directory_sorts.specs.Counting.{count}
-use Rattle.cv_typing_rules.specs.Typing.{IsTyped}
-use Rattle.cv_typing_rules.specs.Wants.{Atoms, Branches, Correspondence, Guarded, Indices, Messages, Of, Run, Tested, Want, above_second, asks_indices, atom_wants, branch_wants, is_in_body, like, list_wants, on_list, place_wants, query_wants, run_wants, wants, wants_arguments}
+use Rattle.cv_scope_rules.specs.typing.Typing.{IsTyped}
+use Rattle.cv_scope_rules.specs.typing.Wants.{Atoms, Branches, Correspondence, Guarded, Indices, Messages, Of, Run, Tested, Want, above_second, asks_indices, atom_wants, branch_wants, is_in_body, like, list_wants, on_list, place_wants, query_wants, run_wants, wants, wants_arguments}
 use Rattle.cv_scope_rules.specs.Context.{replications_below}
 use Rattle.cv_scope_rules.specs.Phrases.{Phrase, Inputs, Nil, OneCell, Term, Terms, is_phrase}
 use Rattle.cv_scope_rules.specs.Rules.{is_index}

@@ -3,7 +3,7 @@
 use Rattle.std.specs.Prelude.{ℕ, suc, List, [], ◌∷◌, Option, Some, None}
 use Rattle.cv_syntax_trees.specs.declared.head.Head.TheVariants.{Oracle}
 use Rattle.cv_syntax_trees.specs.Tree.{Tree, Empty, Node, second}
-use Rattle.cv_meaning_contexts.specs.Groups.{Left, side_tree}
+use Rattle.cv_meaning.specs.contexts.Groups.{Left, side_tree}
 use Rattle.cv_scene.specs.Contexts.{calls_of, matching_of, parameters_of}
 use Rattle.cv_scene.specs.Refusals.{new_of}
 use Rattle.cv_scene.specs.Scenes.{Scene}

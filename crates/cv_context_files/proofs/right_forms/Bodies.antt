@@ -5,7 +5,7 @@ use Rattle.std.specs.List.{AllByRecursion}
 use Rattle.cv_syntax_trees.specs.declared.head.Head.TheVariants.{Binder, Branch, Cons}
 use Rattle.cv_syntax_trees.specs.Tree.{Tree, Empty, Node, chain, first, second}
 use Rattle.cv_meaning.specs.Correspondences.{typed_names}
-use Rattle.cv_meaning_contexts.specs.Groups.{functions_of, group_of}
+use Rattle.cv_meaning.specs.contexts.Groups.{functions_of, group_of}
 use Rattle.cv_parse_notation.specs.Form.{Form}
 use Rattle.cv_parse_grammar.specs.declared.role.Role.{Role}
 use Rattle.cv_parse_grammar.specs.declared.role.Role.TheVariants.{BindsLocal}
@@ -20,7 +20,7 @@ use Rattle.cv_parse_grammar.specs.yields.Yields.{IfThere, Yields}
 use Rattle.cv_parse_laws.proofs.Rows.{rows}
 use Rattle.cv_parse_grammar.proofs.yields.Yielding.{Gives, anything, before, behind, below, follow, leveled, one_of, perhaps, several, turned, weaker}
 use Rattle.cv_scope_rules.specs.Phrases.{Term, is_phrase}
-use Rattle.cv_group_rules.specs.Rules.{have_one_index}
+use Rattle.cv_group.specs.rules.Rules.{have_one_index}
 use Rattle.cv_inline_names_laws.specs.accepted.RightBodies.{are_body_cells, are_right_branches, are_right_functions, is_body_term, is_empty, is_right_body, is_right_side}
 use Rattle.cv_inline_names_laws.specs.cells.Layout.{are_right_texts, is_right_text, is_term}
 use Rattle.cv_context_files.specs.right_forms.Forms.{IsWrittenFunction}

@@ -9,7 +9,7 @@ use Rattle.cv_meaning.specs.Interpretation.{Interpretation, Setting, setting_of,
 use Rattle.cv_meaning.specs.Runs.{Mode}
 use Rattle.cv_meaning.specs.Side.{CallNumber, Side}
 use Rattle.cv_meaning_chances.specs.Tests.{HasValues}
-use Rattle.cv_meaning_contexts.specs.Groups.{Function}
+use Rattle.cv_meaning.specs.contexts.Groups.{Function}
 use Rattle.cv_meaning_chances.specs.values.Values.{ConstructHasValues, HasValuesIn}
 use Rattle.cv_directory_sorts.specs.Sites.{first_of}
 use Rattle.cv_scope_rules.specs.declared.position.Position.{Position}

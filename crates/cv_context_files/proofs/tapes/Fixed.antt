@@ -6,19 +6,19 @@ use Rattle.cv_syntax_trees.specs.declared.class.Class.TheVariants as class
 use Rattle.cv_syntax_trees.specs.declared.head.Head.TheVariants.{New}
 use Rattle.cv_syntax_trees.specs.Declarations.{Declaration, Equiv, Named}
 use Rattle.cv_syntax_trees.specs.Tree.{Tree, Empty, Node, first, second}
-use Rattle.cv_syntax_faults.specs.Walk.{IsObeyed}
+use Rattle.cv_syntax.specs.faults.Walk.{IsObeyed}
 use Rattle.cv_meaning_laws.proofs.Listed.{Has}
 use Rattle.cv_meaning_laws.specs.adequacy.Typed.{IsDeclared, OfType}
 use Rattle.cv_meaning_laws.proofs.adequacy.Lists.{contains_has}
-use Rattle.cv_meaning_contexts.specs.Groups.{Function, Left, Right, Which, functions_of}
+use Rattle.cv_meaning.specs.contexts.Groups.{Function, Left, Right, Which, functions_of}
 use Rattle.cv_directory_sorts.specs.declared.sort.Sort.{Sort}
-use Rattle.cv_typing_rules.specs.declared.fault.Fault.TheVariants.{Arity, IndexAsMessage, NotFixed, WrongType}
-use Rattle.cv_typing_rules.specs.declared.form.Form.TheVariants.{InBody}
-use Rattle.cv_typing_rules.specs.Parts.{AreTyped, IsTypedFile, IsTypedPart, Part, body_parts, declaration_parts, equivalence_parts, first_result, game_part, in_function, more_results, names_of, results, side_arrays, signature_of}
-use Rattle.cv_typing_rules.specs.Signature.{Above, Arrays, Signature, arity_by, declaration_of, fixed_by, is_arity, is_fixed_in, is_of, sort_by}
+use Rattle.cv_scope_rules.specs.declared.typing.fault.Fault.TheVariants.{Arity, IndexAsMessage, NotFixed, WrongType}
+use Rattle.cv_scope_rules.specs.declared.typing.form.Form.TheVariants.{InBody}
+use Rattle.cv_scope_rules.specs.typing.Parts.{AreTyped, IsTypedFile, IsTypedPart, Part, body_parts, declaration_parts, equivalence_parts, first_result, game_part, in_function, more_results, names_of, results, side_arrays, signature_of}
+use Rattle.cv_scope_rules.specs.typing.Signature.{Above, Arrays, Signature, arity_by, declaration_of, fixed_by, is_arity, is_fixed_in, is_of, sort_by}
 use Rattle.cv_directory_sorts.specs.Counting.{count}
-use Rattle.cv_typing_rules.specs.Typing.{IsTyped, fault_of, site_differs}
-use Rattle.cv_typing_rules.specs.Wants.{Run, Want, above_second, is_index_sent, is_wrong, wants}
+use Rattle.cv_scope_rules.specs.typing.Typing.{IsTyped, fault_of, site_differs}
+use Rattle.cv_scope_rules.specs.typing.Wants.{Run, Want, above_second, is_index_sent, is_wrong, wants}
 use Rattle.cv_context_files.specs.tapes.Declared.{BodiesChooseFromDeclaredTypes, ChoosesFromDeclaredTypes}
 
 -- a fixed type is declared

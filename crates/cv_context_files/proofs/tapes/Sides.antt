@@ -13,10 +13,10 @@ use Rattle.cv_meaning_laws.specs.adequacy.Typed.{IsDeclared, OfType}
 use Rattle.cv_meaning_laws.proofs.adequacy.Sorted.{some_value}
 use Rattle.cv_meaning_chances.specs.Tests.{HasValues}
 use Rattle.cv_meaning_chances.proofs.Totals.{once_values}
-use Rattle.cv_meaning_contexts.specs.Groups.{Function, Which, side_group}
-use Rattle.cv_meaning_contexts.specs.Sites.{Site, site_numbered}
-use Rattle.cv_meaning_contexts.specs.Finds.{Oracles, function_of_site}
-use Rattle.cv_meaning_contexts.specs.Sides.{Context, body_cells, chosen_cell, function_cells, oracles_of, side_of}
+use Rattle.cv_meaning.specs.contexts.Groups.{Function, Which, side_group}
+use Rattle.cv_meaning.specs.contexts.Sites.{Site, site_numbered}
+use Rattle.cv_meaning.specs.contexts.Finds.{Oracles, function_of_site}
+use Rattle.cv_meaning.specs.contexts.Sides.{Context, body_cells, chosen_cell, function_cells, oracles_of, side_of}
 use Rattle.cv_context_files.specs.tapes.Declared.{ChoosesFromDeclaredTypes, HasDeclaredTypes, AreOfDeclaredTypes}
 use Rattle.cv_lists.proofs.Each.{AllByRecursion_append}
 

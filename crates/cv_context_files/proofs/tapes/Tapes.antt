@@ -5,9 +5,9 @@ use Rattle.cv_meaning.specs.Interpretation.{Interpretation, setting_with}
 use Rattle.cv_meaning.specs.Runs.{Adversary, Mode}
 use Rattle.cv_meaning.specs.Satisfies.{Satisfies}
 use Rattle.cv_meaning_chances.specs.Fractions.{HasTapes}
-use Rattle.cv_meaning_contexts.specs.ContextAdvantage.{context_advantage, context_chance}
-use Rattle.cv_meaning_contexts.specs.Groups.{Left, Right, Which}
-use Rattle.cv_meaning_contexts.specs.Sides.{side_of}
+use Rattle.cv_meaning.specs.contexts.ContextAdvantage.{context_advantage, context_chance}
+use Rattle.cv_meaning.specs.contexts.Groups.{Left, Right, Which}
+use Rattle.cv_meaning.specs.contexts.Sides.{side_of}
 use Rattle.cv_meaning_chances.specs.values.Values.{HasValuesIn}
 use Rattle.cv_meaning_chances.proofs.values.Tapes.{tapes}
 use Rattle.cv_scope_rules.specs.declared.position.Position.TheVariants.{Anywhere}

@@ -10,7 +10,7 @@ use Rattle.cv_meaning.specs.Satisfies.{Satisfies}
 use Rattle.cv_meaning_laws.proofs.Listed.{Has}
 use Rattle.cv_meaning_laws.proofs.adequacy.Lists.{contains_has}
 use Rattle.cv_meaning_chances.specs.Fractions.{HasTapes}
-use Rattle.cv_meaning_contexts.specs.ContextAdvantage.{context_advantage}
+use Rattle.cv_meaning.specs.contexts.ContextAdvantage.{context_advantage}
 use Rattle.cv_meaning_chances.specs.values.Values.{HasValuesIn}
 use Rattle.cv_parse_notation.specs.declared.sign.Sign.{Sign}
 use Rattle.cv_parse_grammar.specs.Files.{levels}
@@ -23,7 +23,7 @@ use Rattle.cv_parse_grammar.proofs.yields.Yielding.{forms_tell}
 use Rattle.cv_parse_laws.proofs.roles.Declared.{all_asked}
 use Rattle.cv_parse_laws.proofs.roles.Games.{kinds}
 use Rattle.cv_parse_laws.proofs.roles.Rows.{Asked}
-use Rattle.cv_typing_rules.specs.Parts.{IsTypedFile}
+use Rattle.cv_scope_rules.specs.typing.Parts.{IsTypedFile}
 use Rattle.cv_scene.specs.Reductions.{Reduction, context_of_game, in_game}
 use Rattle.cv_context_files.specs.tapes.Declared.{HasDeclaredTypes}
 use Rattle.cv_context_files.proofs.tapes.Fixed.{bodies_choose_declared}

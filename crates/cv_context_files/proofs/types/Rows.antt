@@ -8,7 +8,7 @@ use Rattle.cv_syntax_trees.specs.declared.head.Head.TheVariants.{Equivalence}
 use Rattle.cv_syntax_trees.specs.Declarations.{Declaration, Equiv}
 use Rattle.cv_syntax_trees.specs.Tree.{Tree, Node, binders, chain, first}
 use Rattle.cv_meaning.specs.Correspondences.{typed_names}
-use Rattle.cv_meaning_contexts.specs.Groups.{Function, Group, Left, Right, Which, function_of, functions_of, group_of, side_group}
+use Rattle.cv_meaning.specs.contexts.Groups.{Function, Group, Left, Right, Which, function_of, functions_of, group_of, side_group}
 use Rattle.cv_meaning_laws.specs.adequacy.Typed.{IsDeclared, OfType}
 use Rattle.cv_parse_notation.specs.Form.{Form}
 use Rattle.cv_parse_grammar.specs.declared.role.Region.{Region}

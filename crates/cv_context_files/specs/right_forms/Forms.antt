@@ -3,7 +3,7 @@
 use Rattle.std.specs.Prelude.{◌≡◌, true, []}
 use Rattle.std.specs.List.{AllByRecursion}
 use Rattle.cv_syntax_trees.specs.Tree.{Tree, second}
-use Rattle.cv_meaning_contexts.specs.Groups.{Function, Right, side_group}
+use Rattle.cv_meaning.specs.contexts.Groups.{Function, Right, side_group}
 use Rattle.cv_inline_names_laws.specs.accepted.RightBodies.{is_right_side}
 use Rattle.cv_inline_names_laws.specs.cells.Layout.{is_right_text}
 

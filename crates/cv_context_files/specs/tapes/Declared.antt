@@ -4,7 +4,7 @@ use Rattle.std.specs.List.{AllByRecursion}
 use Rattle.cv_syntax_trees.specs.declared.head.Head.TheVariants.{New}
 use Rattle.cv_syntax_trees.specs.Declarations.{Declaration}
 use Rattle.cv_syntax_trees.specs.Tree.{Tree, Empty, Node}
-use Rattle.cv_meaning_contexts.specs.Groups.{Function, Which, side_group}
+use Rattle.cv_meaning.specs.contexts.Groups.{Function, Which, side_group}
 use Rattle.cv_meaning_laws.specs.adequacy.Typed.{IsDeclared, OfType}
 
 -- each of these names stands with a declared type

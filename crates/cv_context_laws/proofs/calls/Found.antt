@@ -7,7 +7,7 @@ use Rattle.cv_syntax_trees.specs.declared.head.Head.TheVariants.{And, Apply, Cal
 use Rattle.cv_syntax_trees.specs.Tree.{Tree, Empty, Node}
 use Rattle.cv_meaning.specs.Cells.{bounds_under}
 use Rattle.cv_meaning.specs.Interpretation.{Setting}
-use Rattle.cv_meaning_contexts.specs.Sites.{bounds_above, is_call}
+use Rattle.cv_meaning.specs.contexts.Sites.{bounds_above, is_call}
 use Rattle.cv_scope_rules.specs.Phrases.{Body, Inputs, Nil, Phrase, Term, Terms, both_are, is_oracle_phrase, is_phrase, oracle_parts}
 use Rattle.cv_scene.specs.Contexts.{call_terms}
 use Rattle.cv_scene.specs.Instances.{call_at}

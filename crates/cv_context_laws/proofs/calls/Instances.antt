@@ -9,8 +9,8 @@ use Rattle.cv_syntax_trees.specs.declared.head.Head.{Head}
 use Rattle.cv_syntax_trees.specs.declared.head.Head.TheVariants.{Call as CallHead, Cons, Leaf, Read}
 use Rattle.cv_syntax_trees.specs.Tree.{Tree, Empty, Node, chain, first, first_place, second, second_place, same_tree}
 use Rattle.cv_directory_sorts.specs.Sites.{first_of}
-use Rattle.cv_meaning_contexts.specs.Groups.{Function}
-use Rattle.cv_meaning_contexts.specs.Sites.{is_call}
+use Rattle.cv_meaning.specs.contexts.Groups.{Function}
+use Rattle.cv_meaning.specs.contexts.Sites.{is_call}
 use Rattle.cv_scope_rules.specs.Context.{first_position, replications_below, second_position}
 use Rattle.cv_scope_rules.specs.Phrases.{Body, Inputs, Nil, OneCell, Phrase, Term, Terms, is_phrase, parts}
 use Rattle.cv_scope_rules.specs.declared.position.Position.{Position}

@@ -7,7 +7,7 @@ use Rattle.cv_syntax_trees.specs.declared.head.Head.TheVariants.{Find}
 use Rattle.cv_syntax_trees.specs.Tree.{Tree, Empty, Node}
 use Rattle.cv_scene.specs.Reductions.{Reduction}
 use Rattle.cv_inline.specs.Draws.{labels_in}
-use Rattle.cv_inline_draws_laws.proofs.Fresh.{as_many_labels, labels_differ, labels_free}
+use Rattle.cv_inline_laws.proofs.draws.Fresh.{as_many_labels, labels_differ, labels_free}
 use Rattle.cv_context_runs.specs.visits.Fine.{has_label}
 use Rattle.cv_match_laws.specs.answers.Drawn.{AreDrawnFor, finds}
 

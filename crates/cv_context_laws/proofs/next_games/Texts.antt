@@ -6,7 +6,7 @@ use Rattle.std.specs.List.{AllByRecursion, IsDistinct, list_any}
 use Rattle.cv_scene.specs.Reductions.{Reduction}
 use Rattle.cv_scene.specs.Scenes.{is_new, names}
 use Rattle.cv_inline.specs.Draws.{Draw, drawn_texts, greatest_end, is_among, labels_from, labels_in, same_text}
-use Rattle.cv_inline_draws_laws.proofs.Texts.{as_many_texts, drawn_fit, texts_differ, texts_free}
+use Rattle.cv_inline_laws.proofs.draws.Texts.{as_many_texts, drawn_fit, texts_differ, texts_free}
 use Rattle.cv_inline_draws.specs.names.Texts.{is_listed, text_at, texts_at}
 use Rattle.cv_match_laws.specs.answers.Drawn.{AreDrawnFor, draws, finds}
 use Rattle.cv_inline_draws.proofs.names.Texts.{same_text_refl}

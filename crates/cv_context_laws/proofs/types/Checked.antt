@@ -2,7 +2,7 @@
 use Rattle.std.proofs.Common.{◌≡◌, ℕ, ◌==◌, Bool, true, false, cond, List, [], Option, Some, None, is_some, refl, sym, ap, ◌∙◌, eq-eqb}
 use Rattle.std.proofs.lemmas.Bool.{both_ways, or_left, or_parts, or_right}
 use Rattle.std.specs.Prelude.{option_map}
-use Rattle.cv_syntax_faults.specs.Walk.{IsObeyed}
+use Rattle.cv_syntax.specs.faults.Walk.{IsObeyed}
 use Rattle.cv_syntax_trees.specs.declared.head.Head.{Head}
 use Rattle.cv_syntax_trees.specs.declared.head.Head.TheVariants.{Binder, Branch, In, Let, New}
 use Rattle.cv_syntax_trees.specs.Declarations.{Declaration}
@@ -10,12 +10,12 @@ use Rattle.cv_syntax_trees.specs.Tree.{Tree, Empty, Node, second}
 use Rattle.cv_directory_sorts.specs.Sites.{Variable, at_parameters, bound_sort, first_of, first_site, parameters_below, site_here, sites_of}
 use Rattle.cv_directory_sorts.specs.declared.sort.Sort.{Sort}
 use Rattle.cv_directory_sorts.specs.declared.sort.Sort.TheVariants.{BelowParameter, OfType}
-use Rattle.cv_typing_rules.specs.Parts.{IsTypedGame, nothing_above}
-use Rattle.cv_typing_rules.specs.Signature.{Above, OfGame, Signature, variable_sort}
-use Rattle.cv_typing_rules.specs.Typing.{binders_differ, site_differs, typing_walk}
+use Rattle.cv_scope_rules.specs.typing.Parts.{IsTypedGame, nothing_above}
+use Rattle.cv_scope_rules.specs.typing.Signature.{Above, OfGame, Signature, variable_sort}
+use Rattle.cv_scope_rules.specs.typing.Typing.{binders_differ, site_differs, typing_walk}
 use Rattle.cv_directory_sorts.specs.Sorts.{differs_from}
-use Rattle.cv_typing_rules.specs.Wants.{Run, Want}
-use Rattle.cv_typing_rules.specs.declared.form.Form.TheVariants.{InProcess}
+use Rattle.cv_scope_rules.specs.typing.Wants.{Run, Want}
+use Rattle.cv_scope_rules.specs.declared.typing.form.Form.TheVariants.{InProcess}
 use Rattle.cv_typing_runs.proofs.Terms.{faultless, same_sorts}
 use Rattle.cv_scope_rules.specs.Made.{made_by}
 use Rattle.cv_scope_rules.specs.Sites.{Variable as Named}

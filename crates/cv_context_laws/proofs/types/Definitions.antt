@@ -2,7 +2,7 @@
 use Rattle.std.proofs.Common.{◌≡◌, ℕ}
 use Rattle.cv_syntax_trees.specs.declared.head.Head.TheVariants.{Binder, Branch, Call, Cons, Find, In, Key, Let, New, Par}
 use Rattle.cv_syntax_trees.specs.Tree.{Tree, Empty, Node, second}
-use Rattle.cv_meaning_contexts.specs.Roles.{Gone, Plain}
+use Rattle.cv_meaning.specs.contexts.Roles.{Gone, Plain}
 use Rattle.cv_inline_laws.specs.runs.Texts.{Text}
 
 -- each binder of a list has the type of its name

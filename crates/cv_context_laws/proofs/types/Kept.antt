@@ -11,7 +11,7 @@ use Rattle.cv_scene.specs.Sites.{Site}
 use Rattle.cv_scene.specs.Contexts.{after_calls, in_context as tree_in_context}
 use Rattle.cv_scene.specs.Reductions.{Reduction, is_answer, is_coin, matching}
 use Rattle.cv_scene.specs.Apt.{AreSitesApt, IsApt, IsAptGame, inside}
-use Rattle.cv_meaning_contexts.specs.Roles.{Gone}
+use Rattle.cv_meaning.specs.contexts.Roles.{Gone}
 use Rattle.cv_inline_laws.specs.runs.Texts.{Text}
 use Rattle.cv_match_laws.proofs.values.Numbers.{context}
 use Rattle.cv_context_runs.proofs.service.Finds.{arm, arm_of, body_number, branch_in, empty_in, guarded_of, guards_of, node_in, pattern_in}

@@ -7,10 +7,10 @@ use Rattle.cv_syntax_trees.specs.declared.head.Head.{Head}
 use Rattle.cv_syntax_trees.specs.declared.head.Head.TheVariants.{Binder, Let, New}
 use Rattle.cv_syntax_trees.specs.Tree.{Tree, Empty, Node, first, second}
 use Rattle.cv_meaning.specs.Correspondences.{typed_names}
-use Rattle.cv_meaning_contexts.specs.Groups.{Function, Group, Right, function_at, functions_of, side_group}
-use Rattle.cv_meaning_contexts.specs.Sides.{Context}
+use Rattle.cv_meaning.specs.contexts.Groups.{Function, Group, Right, function_at, functions_of, side_group}
+use Rattle.cv_meaning.specs.contexts.Sides.{Context}
 use Rattle.cv_scope_rules.specs.Phrases.{binds_none, head_binds_none}
-use Rattle.cv_meaning_contexts.specs.Inlined.{is_own}
+use Rattle.cv_meaning.specs.contexts.Inlined.{is_own}
 use Rattle.cv_inline.specs.NextGame.{Calling, call_of, calling, callings_from, callings_of, names_assigned}
 use Rattle.cv_lists.proofs.Options.{AllByRecursion_slice_get}
 use Rattle.cv_lists.proofs.Each.{AllByRecursion_append}

@@ -1,6 +1,6 @@
 -- The context of an apt game that typing accepts is laid out.
 use Rattle.std.proofs.Common.{[]}
-use Rattle.cv_typing_rules.specs.Parts.{IsTypedGame}
+use Rattle.cv_scope_rules.specs.typing.Parts.{IsTypedGame}
 use Rattle.cv_scene.specs.LeftTerms.{HasLeftTerms}
 use Rattle.cv_scene.specs.Apt.{IsAptGame}
 use Rattle.cv_scene.specs.Reductions.{Reduction, context_of_game, matching}

@@ -5,7 +5,7 @@ use Rattle.cv_directory_sorts.specs.declared.sort.Sort.{Sort}
 use Rattle.cv_directory_sorts.specs.declared.sort.Sort.TheVariants.{BelowParameter, OfType}
 use Rattle.cv_directory_sorts.specs.Sites.{Variable, first_site}
 use Rattle.cv_scene.specs.Reductions.{Reduction, is_plain, sites}
-use Rattle.cv_meaning_contexts.specs.Roles.{Gone, Plain}
+use Rattle.cv_meaning.specs.contexts.Roles.{Gone, Plain}
 use Rattle.cv_inline_laws.specs.runs.Texts.{Text}
 use Rattle.cv_context_runs.specs.visits.Fine.{defines}
 

@@ -11,9 +11,9 @@ use Rattle.cv_meaning.specs.Interpretation.{Interpretation}
 use Rattle.cv_meaning.specs.Side.{CallNumber}
 use Rattle.cv_meaning.specs.Tapes.{Cell, Made_at, New_at, same_cell}
 use Rattle.cv_meaning_laws.specs.adequacy.Typed as meaning
-use Rattle.cv_meaning_contexts.specs.Bodies.{function_called}
-use Rattle.cv_meaning_contexts.specs.Groups.{Function, Group}
-use Rattle.cv_meaning_contexts.specs.Sides.{body_cells, cells_here, chosen_cell, function_cells}
+use Rattle.cv_meaning.specs.contexts.Bodies.{function_called}
+use Rattle.cv_meaning.specs.contexts.Groups.{Function, Group}
+use Rattle.cv_meaning.specs.contexts.Sides.{body_cells, cells_here, chosen_cell, function_cells}
 use Rattle.cv_directory_sorts.specs.Sites.{Variable, first_of, first_site}
 use Rattle.cv_directory_sorts.specs.declared.sort.Sort.{Sort}
 use Rattle.cv_directory_sorts.specs.declared.sort.Sort.TheVariants.{BelowParameter, OfType}

@@ -1,6 +1,6 @@
 -- What is asked of a game, an equivalence and a key, that the game's context has its chances. This profile's own.
 use Rattle.std.specs.Prelude.{◌≡◌, None}
-use Rattle.cv_typing_rules.specs.Parts.{IsTypedGame}
+use Rattle.cv_scope_rules.specs.typing.Parts.{IsTypedGame}
 use Rattle.cv_typing_runs.specs.Games.{HasArguments, HasKnownNames}
 use Rattle.cv_scene.specs.Refusals.{first_refusal}
 use Rattle.cv_scene.specs.Reductions.{Reduction, matching}

@@ -21,8 +21,8 @@ use Rattle.cv_scene.specs.Refusals.{definitions_in, new_of, only_new}
 use Rattle.cv_scene.specs.Sights.{variable_of}
 use Rattle.cv_typing_runs.specs.Games.{context_of, has_site, variable_of_meaning}
 use Rattle.cv_typing_runs.proofs.Terms.{nil_empty}
-use Rattle.cv_meaning_contexts.specs.KeyTerms.{AreFineKeyTerms, IsFineKeyTerm}
-use Rattle.cv_meaning_contexts.specs.Inlined.{is_index_of}
+use Rattle.cv_meaning.specs.contexts.KeyTerms.{AreFineKeyTerms, IsFineKeyTerm}
+use Rattle.cv_meaning.specs.contexts.Inlined.{is_index_of}
 use Rattle.cv_context_right_side.proofs.texts.Typed.{IsTypedAs}
 use Rattle.cv_context_right_side.proofs.texts.Stands.{IsThere, Stands, below}
 use Rattle.cv_lists.proofs.Each.{AllByRecursion_append}

@@ -14,7 +14,7 @@ use Rattle.cv_context.specs.indices.Indices.{indices_are_new}
 use Rattle.cv_context.proofs.indices.News.{value_sort}
 use Rattle.cv_context.proofs.indices.Replications.{all_new}
 use Rattle.cv_context.proofs.indices.Typed.{variable_there}
-use Rattle.cv_meaning_contexts.specs.Roles.{Gone, Plain, Replication, Role}
+use Rattle.cv_meaning.specs.contexts.Roles.{Gone, Plain, Replication, Role}
 use Rattle.cv_inline_laws.specs.runs.Texts.{Text, is_ordinary}
 use Rattle.cv_context_runs.specs.visits.Fine.{HasRolesOf, has_label}
 use Rattle.cv_context_right_side.specs.texts.SiteTexts.{role_in_game}

@@ -9,15 +9,15 @@ use Rattle.cv_syntax_trees.specs.Declarations.{Declaration}
 use Rattle.cv_syntax_trees.specs.Tree.{Tree, Empty, Node, chain, first, head_reads_only, reads_only}
 use Rattle.cv_meaning.specs.Interpretation.{is_constant_of}
 use Rattle.cv_directory_sorts.specs.Sites.{first_site}
-use Rattle.cv_group_rules.specs.Symbols.{symbols_of}
-use Rattle.cv_group_rules.specs.Faults.{IsAccepted}
+use Rattle.cv_group.specs.rules.Symbols.{symbols_of}
+use Rattle.cv_group.specs.rules.Faults.{IsAccepted}
 use Rattle.cv_scope_rules.specs.Phrases.{Inputs, IsWellFormed}
 use Rattle.cv_scope_rules.specs.Rules.{is_index}
 use Rattle.cv_scope_rules.specs.Scope.{is_variable, names_of as scope_names}
 use Rattle.cv_scope_rules.specs.Standing.{at_root}
 use Rattle.cv_scope_rules.specs.declared.position.Position.TheVariants.{Anywhere}
 use Rattle.cv_scope_rules.proofs.Unbound.{no_variable}
-use Rattle.cv_typing_rules.specs.Parts.{IsTypedGame}
+use Rattle.cv_scope_rules.specs.typing.Parts.{IsTypedGame}
 use Rattle.cv_typing_runs.specs.Games.{HasArguments, HasKnownNames, has_site}
 use Rattle.cv_typing_runs.proofs.Games as games
 use Rattle.cv_scene.specs.Apt.{IsSiteApt}
@@ -40,10 +40,10 @@ use Rattle.cv_context.proofs.indices.Replications.{all_new}
 use Rattle.cv_context.proofs.indices.Typed.{game_free, variable_there}
 use Rattle.cv_context_runs.proofs.instances.Own.{site_without_refusal}
 use Rattle.cv_context_runs.proofs.instances.Sites.{chosen_no_constant, read_is}
-use Rattle.cv_meaning_contexts.specs.KeyTerms.{AreFineKeyTerms}
-use Rattle.cv_meaning_contexts.specs.Inlined.{is_index_of}
-use Rattle.cv_meaning_contexts.specs.Roles as roles
-use Rattle.cv_meaning_contexts.specs.Roles.{Gone, Plain, Replication, Role}
+use Rattle.cv_meaning.specs.contexts.KeyTerms.{AreFineKeyTerms}
+use Rattle.cv_meaning.specs.contexts.Inlined.{is_index_of}
+use Rattle.cv_meaning.specs.contexts.Roles as roles
+use Rattle.cv_meaning.specs.contexts.Roles.{Gone, Plain, Replication, Role}
 use Rattle.cv_inline_laws.specs.runs.Contexts.{ordinary_in}
 use Rattle.cv_inline_laws.specs.runs.Texts.{Text, plain_in}
 use Rattle.cv_context_right_side.specs.texts.SiteTexts.{HasSiteText, IsTextOfGame, indices_of}

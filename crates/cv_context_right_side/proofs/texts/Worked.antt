@@ -1,7 +1,7 @@
 -- The names of the small protocol are those of its game.
 use Rattle.std.proofs.Common.{◌≡◌, ℕ, Bool, true, false, cond, ◌==◌, [], refl, ap, ◌∙◌, eqb-true}
 use Rattle.std.proofs.lemmas.Bool.{both_ways}
-use Rattle.cv_syntax_faults.specs.Walk.{first_fault}
+use Rattle.cv_syntax.specs.faults.Walk.{first_fault}
 use Rattle.cv_syntax_trees.specs.Tree.{same_tree, size}
 use Rattle.cv_directory_sorts.specs.Sites.{bound_sort, first_site, is_untyped_in}
 use Rattle.cv_meaning.specs.Interpretation.{Interpretation}
@@ -15,7 +15,7 @@ use Rattle.cv_scope_rules.proofs.First.{scoped_where_none}
 use Rattle.cv_scene.specs.Scenes.{names}
 use Rattle.cv_scene.specs.Refusals.{definitions_in, new_of}
 use Rattle.cv_match_laws.specs.Worked.{game}
-use Rattle.cv_meaning_contexts.specs.Roles.{Gone, TheKeyName}
+use Rattle.cv_meaning.specs.contexts.Roles.{Gone, TheKeyName}
 use Rattle.cv_context_right_side.specs.texts.SiteTexts.{IsTextOfGame, indices_of, role_in_game}
 use Rattle.cv_context_right_side.specs.texts.Tagging.{declarations, tagging}
 use Rattle.cv_context_right_side.specs.texts.Worked.{tagged_role, tagged_text}

@@ -4,16 +4,16 @@ use Rattle.std.specs.List.{AllByRecursion, IsDistinct, list_any}
 use Rattle.cv_syntax_trees.specs.Tree.{same_tree, size}
 use Rattle.cv_derive_rules.specs.Given.{with_given}
 use Rattle.cv_directory_sorts.specs.Sites.{bound_sort, first_site}
-use Rattle.cv_typing_rules.specs.Signature.{names_in}
-use Rattle.cv_meaning_contexts.specs.Groups.{Right, side_group}
-use Rattle.cv_meaning_contexts.specs.Sides.{Context}
+use Rattle.cv_scope_rules.specs.typing.Signature.{names_in}
+use Rattle.cv_meaning.specs.contexts.Groups.{Right, side_group}
+use Rattle.cv_meaning.specs.contexts.Sides.{Context}
 use Rattle.cv_scene.specs.Contexts.{context_in}
 use Rattle.cv_scene.specs.Instances.{standing_for}
 use Rattle.cv_scene.specs.Reductions.{context_of_game}
 use Rattle.cv_scene.specs.Scenes.{is_new, names}
 use Rattle.cv_scene.specs.Sites.{sites_in}
 use Rattle.cv_match_laws.specs.Worked.{authentication, game}
-use Rattle.cv_meaning_contexts.specs.Inlined.{all_equal, cells_in_game, expanded, expanded_at, in_game, inlined_body, inlined_call, moved, needed}
+use Rattle.cv_meaning.specs.contexts.Inlined.{all_equal, cells_in_game, expanded, expanded_at, in_game, inlined_body, inlined_call, moved, needed}
 use Rattle.cv_inline.specs.Draws.{Draw, body_draws, draws_of, drawn_by, finds_in, index_draws, label_draws, labels_from, labels_in}
 use Rattle.cv_inline.specs.NextGame.{call_of, callings_from, callings_of, names_assigned, next_in, next_of, with_results}
 use Rattle.cv_match_laws.specs.answers.Answers.{above_names}

@@ -8,9 +8,9 @@ use Rattle.cv_scene.specs.Terms.{has_index}
 use Rattle.cv_scene.specs.Sites.{Site}
 use Rattle.cv_scene.specs.Refusals.{new_of}
 use Rattle.cv_scene.specs.Reductions.{Reduction, is_plain}
-use Rattle.cv_meaning_contexts.specs.KeyTerms.{AreFineKeyTerms}
-use Rattle.cv_meaning_contexts.specs.Inlined.{is_index_of}
-use Rattle.cv_meaning_contexts.specs.Roles.{Gone, Plain, Replication, Role}
+use Rattle.cv_meaning.specs.contexts.KeyTerms.{AreFineKeyTerms}
+use Rattle.cv_meaning.specs.contexts.Inlined.{is_index_of}
+use Rattle.cv_meaning.specs.contexts.Roles.{Gone, Plain, Replication, Role}
 use Rattle.cv_inline_laws.specs.runs.Contexts.{ordinary_in}
 use Rattle.cv_inline_laws.specs.runs.Texts.{Text, plain_in}
 use Rattle.cv_context_runs.specs.visits.CallTexts.{AreOwnIndices}

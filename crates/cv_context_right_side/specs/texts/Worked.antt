@@ -5,7 +5,7 @@ use Rattle.std.specs.Prelude.{ℕ, false, ◌==◌, if◌then◌else◌, []}
 use Rattle.cv_meaning.specs.Interpretation.{Interpretation, setting_of}
 use Rattle.cv_meaning.specs.Tapes.{blank}
 use Rattle.cv_scene.specs.Reductions.{context_of_game}
-use Rattle.cv_meaning_contexts.specs.Roles.{Gone, Role, TheKeyName}
+use Rattle.cv_meaning.specs.contexts.Roles.{Gone, Role, TheKeyName}
 use Rattle.cv_inline.specs.NextGame.{inlined_calls_of}
 use Rattle.cv_inline_laws.specs.runs.Texts.{Text}
 use Rattle.cv_context_right_side.specs.texts.SiteTexts.{role_in_game}

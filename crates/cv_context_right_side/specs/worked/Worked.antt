@@ -5,7 +5,7 @@ use Rattle.cv_syntax_trees.specs.declared.head.Head.TheVariants.{And, Eq, Let, N
 use Rattle.cv_syntax_trees.specs.Builders.{branch, correspondence, find, leaf, occurs, read}
 use Rattle.cv_syntax_trees.specs.Declarations.{Declaration, Query}
 use Rattle.cv_syntax_trees.specs.Tree.{Tree, Empty, Node, lone}
-use Rattle.cv_meaning_contexts.specs.Sides.{Context}
+use Rattle.cv_meaning.specs.contexts.Sides.{Context}
 use Rattle.cv_scene.specs.Reductions.{Reduction}
 use Rattle.cv_match_laws.specs.Worked.{accepts, apply, authentication, call, choose_key, game, game_with, parties, sends}
 use Rattle.cv_context_left_side.specs.refusals.Worked as without_queries

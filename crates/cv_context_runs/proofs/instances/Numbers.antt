@@ -9,12 +9,12 @@ use Rattle.cv_syntax_trees.specs.Tree.{Tree, Empty, Node, first_place, second_pl
 use Rattle.cv_meaning.specs.Interpretation.{Interpretation, Setting}
 use Rattle.cv_meaning.specs.Side.{CallNumber}
 use Rattle.cv_meaning.specs.Cells.{bounds_under}
-use Rattle.cv_meaning_contexts.specs.Bodies.{function_called}
-use Rattle.cv_meaning_contexts.specs.Finds.{function_of_site}
-use Rattle.cv_meaning_contexts.specs.Groups.{function_at}
-use Rattle.cv_meaning_contexts.specs.Sites as numbered
+use Rattle.cv_meaning.specs.contexts.Bodies.{function_called}
+use Rattle.cv_meaning.specs.contexts.Finds.{function_of_site}
+use Rattle.cv_meaning.specs.contexts.Groups.{function_at}
+use Rattle.cv_meaning.specs.contexts.Sites as numbered
 use Rattle.cv_lists.specs.Options.{first_of}
-use Rattle.cv_meaning_contexts.specs.Sites.{bounds_above, is_call, site_numbered, site_with, sites_from}
+use Rattle.cv_meaning.specs.contexts.Sites.{bounds_above, is_call, site_numbered, site_with, sites_from}
 use Rattle.cv_scope_rules.specs.Context.{cell_of, first_position, replications_below, second_position}
 use Rattle.cv_scope_rules.specs.Phrases.{Arm, Binders, Body, Branches, Cells, Else, Guarded, Guards, Indices as Names, Inputs, Nil, Pattern, Message, Term, Terms, Then, is_phrase}
 use Rattle.cv_scope_rules.specs.declared.position.Position.{Position}

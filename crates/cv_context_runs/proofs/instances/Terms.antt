@@ -7,11 +7,11 @@ use Rattle.cv_syntax_trees.specs.declared.head.Head.TheVariants.{Leaf, Read, App
 use Rattle.cv_syntax_trees.specs.Declarations.{Declaration}
 use Rattle.cv_syntax_trees.specs.Tree.{Tree, Empty, Node, chain, same_tree}
 use Rattle.cv_syntax_trees.proofs.Equality.{same_tree_exact}
-use Rattle.cv_meaning_contexts.specs.Groups.{Function}
+use Rattle.cv_meaning.specs.contexts.Groups.{Function}
 use Rattle.cv_directory_sorts.specs.Sites.{first_of}
 use Rattle.cv_directory_sorts.specs.declared.sort.Sort.TheVariants.{OfType}
-use Rattle.cv_typing_rules.specs.Parts.{nothing_above}
-use Rattle.cv_typing_rules.specs.Signature.{Signature, sort_of}
+use Rattle.cv_scope_rules.specs.typing.Parts.{nothing_above}
+use Rattle.cv_scope_rules.specs.typing.Signature.{Signature, sort_of}
 use Rattle.cv_scope_rules.specs.Phrases.{Term, is_phrase}
 use Rattle.cv_scene.specs.Sights.{variable_of}
 use Rattle.cv_scene.specs.Terms.{is_sort, signature_in}

@@ -15,8 +15,8 @@ use Rattle.cv_meaning.specs.Tapes.{Key_at, Made_at, Tape}
 use Rattle.cv_meaning.specs.Terms.{found_in, leaf_value_from, or_zero, value, values}
 use Rattle.cv_meaning_laws.proofs.Agreeing.{values_agree}
 use Rattle.cv_meaning_laws.proofs.Sides.{values_same}
-use Rattle.cv_meaning_contexts.specs.Bodies.{reply}
-use Rattle.cv_meaning_contexts.specs.Groups.{Function, Group}
+use Rattle.cv_meaning.specs.contexts.Bodies.{reply}
+use Rattle.cv_meaning.specs.contexts.Groups.{Function, Group}
 use Rattle.cv_scope_rules.specs.Context.{cell_of, index_terms}
 use Rattle.cv_scope_rules.specs.Phrases.{Nil, Term, Terms, is_phrase}
 use Rattle.cv_scope_runs.specs.Reads.{LeafAssigned, TermAssigned, TermsAssigned}

@@ -10,14 +10,14 @@ use Rattle.cv_meaning.specs.Terms.{found_in, value, values}
 use Rattle.cv_meaning.specs.Candidates.{is_assigned}
 use Rattle.cv_meaning.specs.Serving.{key_tuple}
 use Rattle.cv_meaning_laws.proofs.Sides.{values_same}
-use Rattle.cv_meaning_contexts.specs.Sides.{side_from}
+use Rattle.cv_meaning.specs.contexts.Sides.{side_from}
 use Rattle.cv_scope_rules.specs.Phrases.{Nil, Term, Terms, is_oracle_phrase}
 use Rattle.cv_scope_runs.specs.Reads.{LeafAssigned, TermAssigned, TermsAssigned}
 use Rattle.cv_scope_runs.proofs.Contexts.{Matches, index_none}
 use Rattle.cv_scene.specs.Sights.{variable_of}
-use Rattle.cv_meaning_contexts.specs.Inlined.{Caller, is_index_of, needed}
+use Rattle.cv_meaning.specs.contexts.Inlined.{Caller, is_index_of, needed}
 use Rattle.cv_inline.specs.bodies.Related.{indices_at}
-use Rattle.cv_meaning_contexts.specs.Roles.{Gone, Replication, Role, is_plain}
+use Rattle.cv_meaning.specs.contexts.Roles.{Gone, Replication, Role, is_plain}
 use Rattle.cv_inline.specs.NextGame.{callers_of}
 use Rattle.cv_inline_laws.specs.runs.Texts.{IsHere, KeyKeeps, Text, oracles_in, plain_in}
 use Rattle.cv_inline_laws.specs.runs.Contexts.{IsCallVisit, context_setting}

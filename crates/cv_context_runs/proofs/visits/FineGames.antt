@@ -14,8 +14,8 @@ use Rattle.cv_scene.specs.Contexts.{after_calls}
 use Rattle.cv_scene.specs.Reductions.{Reduction, context_of_game, is_answer, is_coin, is_plain, matching}
 use Rattle.cv_scene.specs.Apt.{AreBindersPlain, IsApt, IsAptGame, has_value, inside}
 use Rattle.cv_match_laws.proofs.values.Numbers.{context}
-use Rattle.cv_meaning_contexts.specs.Inlined.{index_terms}
-use Rattle.cv_meaning_contexts.specs.Roles.{Plain}
+use Rattle.cv_meaning.specs.contexts.Inlined.{index_terms}
+use Rattle.cv_meaning.specs.contexts.Roles.{Plain}
 use Rattle.cv_inline.specs.NextGame.{Calling}
 use Rattle.cv_inline_laws.specs.runs.Contexts.{Answers, IsAnswer, AreFineBranchesIn, AreFineInputs, IsFineContext}
 use Rattle.cv_inline_laws.specs.runs.Texts.{Text}

@@ -14,7 +14,7 @@ use Rattle.cv_scene.specs.Sites.{Site, sites_in}
 use Rattle.cv_scene.specs.Reductions.{Reduction, is_plain, matching}
 use Rattle.cv_scene.specs.Apt.{are_cells_apt, has_value, reads_outside}
 use Rattle.cv_match_laws.proofs.values.Numbers.{context, count_sites}
-use Rattle.cv_meaning_contexts.specs.Inlined.{index_terms}
+use Rattle.cv_meaning.specs.contexts.Inlined.{index_terms}
 use Rattle.cv_inline_laws.specs.runs.Contexts.{Answers, AreCells, AreFineIn, IsAnswer, IsFineIn, ordinary_in}
 use Rattle.cv_inline_laws.specs.runs.Texts.{Text}
 use Rattle.cv_context_runs.specs.visits.Fine.{has_free_indices, has_no_call}

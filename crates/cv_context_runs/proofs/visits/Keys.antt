@@ -12,8 +12,8 @@ use Rattle.cv_scope_rules.specs.Context.{items}
 use Rattle.cv_scope_runs.specs.Promises.{AreIndicesOf}
 use Rattle.cv_scope_runs.specs.Reads.{LeafAssigned, TermAssigned, TermsAssigned}
 use Rattle.cv_scope_runs.proofs.TermsLater.{later_same}
-use Rattle.cv_meaning_contexts.specs.KeyTerms.{AreFineKeyTerms, IsFineKeyTerm}
-use Rattle.cv_meaning_contexts.specs.Inlined.{index_terms, is_index_of, needed}
+use Rattle.cv_meaning.specs.contexts.KeyTerms.{AreFineKeyTerms, IsFineKeyTerm}
+use Rattle.cv_meaning.specs.contexts.Inlined.{index_terms, is_index_of, needed}
 use Rattle.cv_inline.specs.bodies.Related.{IsKept, indices_at}
 use Rattle.cv_lists.proofs.Each.{AllByRecursion_append}
 

@@ -6,15 +6,15 @@ use Rattle.cv_syntax_trees.specs.declared.head.Head.TheVariants.{Call}
 use Rattle.cv_syntax_trees.specs.Tree.{Tree, Empty, Node, first, reads_only, second}
 use Rattle.cv_meaning.specs.Tapes.{Find_at, Made_at, New_at, Picked_at}
 use Rattle.cv_meaning.specs.Memory.{Indices}
-use Rattle.cv_meaning_contexts.specs.Bodies.{function_called}
-use Rattle.cv_meaning_contexts.specs.Groups.{Function}
+use Rattle.cv_meaning.specs.contexts.Bodies.{function_called}
+use Rattle.cv_meaning.specs.contexts.Groups.{Function}
 use Rattle.cv_scope_rules.specs.Context.{items, replications_below}
 use Rattle.cv_scene.specs.Sights.{variable_of}
 use Rattle.cv_inline.specs.bodies.Accepted.{IsFineCall}
-use Rattle.cv_meaning_contexts.specs.KeyTerms.{AreFineKeyTerms}
-use Rattle.cv_meaning_contexts.specs.Inlined.{Caller, TheKey, is_index_of, is_own}
+use Rattle.cv_meaning.specs.contexts.KeyTerms.{AreFineKeyTerms}
+use Rattle.cv_meaning.specs.contexts.Inlined.{Caller, TheKey, is_index_of, is_own}
 use Rattle.cv_inline.specs.bodies.Related.{AreSitesOf}
-use Rattle.cv_meaning_contexts.specs.Roles.{Gone, Replication}
+use Rattle.cv_meaning.specs.contexts.Roles.{Gone, Replication}
 use Rattle.cv_inline.specs.NextGame.{Calling, callers_of, numbered}
 use Rattle.cv_inline_laws.specs.runs.Texts.{IsHere, Text, inlining_at, is_ordinary, oracles_in, plain_in}
 

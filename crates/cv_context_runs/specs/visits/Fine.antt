@@ -9,7 +9,7 @@ use Rattle.cv_scope_rules.specs.Sites.{Variable}
 use Rattle.cv_scene.specs.Scenes.{names}
 use Rattle.cv_scene.specs.Instances.{Matching, call_at}
 use Rattle.cv_scene.specs.Reductions.{Reduction, is_plain}
-use Rattle.cv_meaning_contexts.specs.Roles.{Plain}
+use Rattle.cv_meaning.specs.contexts.Roles.{Plain}
 use Rattle.cv_inline_laws.specs.runs.Contexts.{ordinary_in}
 use Rattle.cv_inline_laws.specs.runs.Texts.{Text}
 

@@ -8,7 +8,7 @@ use Rattle.cv_syntax_trees.specs.declared.head.Head.TheVariants.{Binder, Branch,
 use Rattle.cv_syntax_trees.specs.Declarations.{Declaration}
 use Rattle.cv_syntax_trees.specs.Head.{weight}
 use Rattle.cv_syntax_trees.specs.Tree.{Tree, Empty, Node, size, subtree, first_place, second_place}
-use Rattle.cv_syntax_faults.specs.Walk.{IsObeyed}
+use Rattle.cv_syntax.specs.faults.Walk.{IsObeyed}
 use Rattle.cv_meaning.specs.Tapes.{same_tuple}
 use Rattle.cv_meaning.specs.Interpretation.{Interpretation, setting_of}
 use Rattle.cv_meaning.specs.Binders.{bound_to, fits}
@@ -32,12 +32,12 @@ use Rattle.cv_path.specs.Places.{LiesAt}
 use Rattle.cv_path.proofs.Bounds.{lies_somewhere}
 use Rattle.cv_path.proofs.Going.{choice_here, choice_within, choice_behind, less_within, less_behind, subtree_here, subtree_within, subtree_behind}
 use Rattle.cv_scope_rules.specs.Above.{first_standing, second_standing, standing_at, stands_at}
-use Rattle.cv_typing_rules.specs.declared.form.Form.TheVariants.{InProcess}
-use Rattle.cv_typing_rules.specs.Parts.{IsTypedGame}
-use Rattle.cv_typing_rules.specs.Signature.{Above, OfGame, Signature, variable_sort}
-use Rattle.cv_typing_rules.specs.Typing.{IsTyped, binders_differ}
+use Rattle.cv_scope_rules.specs.declared.typing.form.Form.TheVariants.{InProcess}
+use Rattle.cv_scope_rules.specs.typing.Parts.{IsTypedGame}
+use Rattle.cv_scope_rules.specs.typing.Signature.{Above, OfGame, Signature, variable_sort}
+use Rattle.cv_scope_rules.specs.typing.Typing.{IsTyped, binders_differ}
 use Rattle.cv_directory_sorts.specs.Sorts.{differs_from}
-use Rattle.cv_typing_rules.specs.Wants.{Run, Want, above_second, wants}
+use Rattle.cv_scope_rules.specs.typing.Wants.{Run, Want, above_second, wants}
 use Rattle.cv_typing_runs.specs.Games.{context_of, sort_of_meaning, variable_of_meaning}
 use Rattle.cv_typing_runs.proofs.SameSites.{Agrees, sites_agree}
 use Rattle.cv_typing_runs.proofs.Terms.{faultless, same_sorts}

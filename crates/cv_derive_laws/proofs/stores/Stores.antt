@@ -17,7 +17,7 @@ use Rattle.cv_meaning_laws.specs.adequacy.Typed.{Context, IsTypedStore}
 use Rattle.cv_scope_rules.specs.Phrases.{IsWellFormed}
 use Rattle.cv_scope_runs.specs.Promises.{GrowsToEnd}
 use Rattle.cv_scope_runs.specs.Reads.{IsKept}
-use Rattle.cv_typing_rules.specs.Parts.{IsTypedGame}
+use Rattle.cv_scope_rules.specs.typing.Parts.{IsTypedGame}
 use Rattle.cv_typing_runs.specs.Games.{HasArguments, HasDeclaredSorts, HasKnownNames, context_of}
 use Rattle.cv_typing_runs.proofs.Games.{typed_runs}
 use Rattle.cv_derive_laws.specs.stores.Reached.{HasTypes}

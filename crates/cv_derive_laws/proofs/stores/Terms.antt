@@ -12,12 +12,12 @@ use Rattle.cv_scope_rules.specs.Phrases.{IsWellFormed, Phrase, Nil, Term, Terms,
 use Rattle.cv_directory_sorts.specs.declared.sort.Sort.{Sort}
 use Rattle.cv_directory_sorts.specs.declared.sort.Sort.TheVariants.{BelowParameter}
 use Rattle.cv_directory_sorts.specs.Sites.{first_of}
-use Rattle.cv_typing_rules.specs.declared.precedence.Precedence.TheVariants.{First}
-use Rattle.cv_typing_rules.specs.Parts.{nothing_above}
-use Rattle.cv_typing_rules.specs.Signature.{Above, sort_of, function_in}
-use Rattle.cv_typing_rules.specs.Typing as typing
-use Rattle.cv_typing_rules.specs.Wants.{AnyTerm, bound}
-use Rattle.cv_typing_rules.proofs.First.{typed_where_none}
+use Rattle.cv_scope_rules.specs.declared.typing.precedence.Precedence.TheVariants.{First}
+use Rattle.cv_scope_rules.specs.typing.Parts.{nothing_above}
+use Rattle.cv_scope_rules.specs.typing.Signature.{Above, sort_of, function_in}
+use Rattle.cv_scope_rules.specs.typing.Typing as typing
+use Rattle.cv_scope_rules.specs.typing.Wants.{AnyTerm, bound}
+use Rattle.cv_scope_rules.proofs.typing.First.{typed_where_none}
 use Rattle.cv_typing_runs.specs.Games.{HasArguments, context_of, sort_of_meaning}
 use Rattle.cv_typing_runs.proofs.Known.{AreKnown, IsKnown}
 use Rattle.cv_typing_runs.proofs.Terms.{sorted}

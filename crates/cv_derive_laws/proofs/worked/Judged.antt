@@ -1,14 +1,14 @@
 -- The worked derivations are judged as is said.
 use Rattle.std.proofs.Common.{◌≡◌, true, false, [], ◌∷◌, Some, None, refl}
 use Rattle.std.specs.List.{AllByRecursion}
-use Rattle.cv_syntax_faults.specs.Walk.{first_fault}
+use Rattle.cv_syntax.specs.faults.Walk.{first_fault}
 use Rattle.cv_syntax_trees.specs.declared.head.Head.TheVariants.{ByAgain, ByAnd, ByBool, ByCong, ByContra, ByData, ByEquation, ByFact, ByGiven, ByHere, ByMp, ByOf, ByOtherHere, ByRefl, BySite, BySym, ByTrans}
 use Rattle.cv_syntax_trees.specs.Builders.{leaf}
 use Rattle.cv_syntax_trees.specs.Tree.{Empty, Node, chain, lone, size, subtree, same_tree}
 use Rattle.cv_directory_sorts.specs.Sites.{bound_sort, first_index, first_site}
-use Rattle.cv_typing_rules.specs.Signature.{names_in}
+use Rattle.cv_scope_rules.specs.typing.Signature.{names_in}
 use Rattle.cv_directory_sorts.specs.Counting as counting
-use Rattle.cv_typing_rules.specs.Typing.{binders_differ}
+use Rattle.cv_scope_rules.specs.typing.Typing.{binders_differ}
 use Rattle.cv_scope_rules.specs.Context.{context_at}
 use Rattle.cv_scope_rules.specs.Made.{is_bound}
 use Rattle.cv_scope_rules.specs.Phrases.{is_phrase}

@@ -10,7 +10,7 @@ use Rattle.cv_meaning.specs.Queries.{queries_in}
 use Rattle.cv_meaning.specs.Runs.{Adversary}
 use Rattle.cv_meaning.specs.Satisfies.{Satisfies}
 use Rattle.cv_meaning_chances.specs.Fractions.{sum_of}
-use Rattle.cv_bound_values.specs.Values.{collision_value}
+use Rattle.cv_steps.specs.values.Values.{collision_value}
 use Rattle.cv_steps.specs.Steps.{Collisions, Cost, Zero}
 
 -- what a cost is worth: the chances of its collisions together

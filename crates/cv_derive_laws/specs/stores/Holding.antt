@@ -11,7 +11,7 @@ use Rattle.cv_meaning.specs.Candidates.{are_assigned, is_candidate}
 use Rattle.cv_meaning.specs.Memory.{Indices, Local, Memory, Store, tuple}
 use Rattle.cv_meaning.specs.Serving.{Visit}
 use Rattle.cv_scope_rules.specs.Phrases.{IsWellFormed}
-use Rattle.cv_typing_rules.specs.Parts.{IsTypedGame}
+use Rattle.cv_scope_rules.specs.typing.Parts.{IsTypedGame}
 use Rattle.cv_typing_runs.specs.Games.{HasArguments, HasDeclaredSorts, HasKnownNames, HasNamedFunctionsAndCells}
 use Rattle.cv_derive_facts.specs.Promises.{IsOwnTerm}
 use Rattle.cv_scene.specs.Scenes.{Scene}

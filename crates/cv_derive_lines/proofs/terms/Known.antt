@@ -9,11 +9,11 @@ use Rattle.cv_directory_sorts.specs.declared.sort.Sort.{Sort}
 use Rattle.cv_directory_sorts.specs.declared.sort.Sort.TheVariants.{BelowParameter}
 use Rattle.cv_directory_sorts.specs.Sites.{first_of}
 use Rattle.cv_typing.specs.declared.arrays.Arrays.{Arrays}
-use Rattle.cv_typing_rules.specs.declared.precedence.Precedence.TheVariants.{First}
-use Rattle.cv_typing_rules.specs.Parts.{nothing_above}
-use Rattle.cv_typing_rules.specs.Signature.{Above, variable_in}
+use Rattle.cv_scope_rules.specs.declared.typing.precedence.Precedence.TheVariants.{First}
+use Rattle.cv_scope_rules.specs.typing.Parts.{nothing_above}
+use Rattle.cv_scope_rules.specs.typing.Signature.{Above, variable_in}
 use Rattle.cv_typing.specs.Tables.{Map, above_of}
-use Rattle.cv_typing_rules.specs.Wants.{bound}
+use Rattle.cv_scope_rules.specs.typing.Wants.{bound}
 use Rattle.cv_scope_rules.specs.Rules.{is_index}
 use Rattle.cv_scene.specs.Sights.{Sight}
 use Rattle.cv_scene.specs.Terms.{indices_above, is_function, names_at, replications_at}

@@ -6,11 +6,11 @@ use Rattle.cv_syntax_trees.specs.declared.head.Head.{Head}
 use Rattle.cv_syntax_trees.specs.declared.head.Head.TheVariants as head
 use Rattle.cv_syntax_trees.specs.Head.{weight}
 use Rattle.cv_syntax_trees.specs.Tree.{Tree, Empty, Node, size}
-use Rattle.cv_syntax_faults.specs.Walk.{first_of, placed}
-use Rattle.cv_typing_rules.specs.Signature.{Signature, Above}
-use Rattle.cv_typing_rules.specs.Typing.{fault_of, first_fault}
-use Rattle.cv_typing_rules.specs.Wants.{Want, above_second, wants}
-use Rattle.cv_typing_rules.proofs.Steps.{fault_end, fault_parts}
+use Rattle.cv_syntax.specs.faults.Walk.{first_of, placed}
+use Rattle.cv_scope_rules.specs.typing.Signature.{Signature, Above}
+use Rattle.cv_scope_rules.specs.typing.Typing.{fault_of, first_fault}
+use Rattle.cv_scope_rules.specs.typing.Wants.{Want, above_second, wants}
+use Rattle.cv_scope_rules.proofs.typing.Steps.{fault_end, fault_parts}
 use Rattle.cv_scope_rules.specs.Phrases.{Phrase, Nil, Terms, Term, OneCell, both_are, is_phrase, parts}
 use Rattle.cv_scene.specs.Terms.{Names, head_is_there, is_there}
 use Rattle.cv_derive_lines.specs.terms.Typed.{is_known_cell, is_known_head, is_typed_tree}

@@ -7,9 +7,9 @@ use Rattle.cv_syntax_trees.specs.Tree.{Tree}
 use Rattle.cv_directory_sorts.specs.declared.sort.Sort.{Sort}
 use Rattle.cv_typing.specs.declared.arrays.Arrays.{Arrays}
 use Rattle.cv_typing.specs.Lookups.{signature_in}
-use Rattle.cv_typing_rules.specs.Signature.{sort_of}
+use Rattle.cv_scope_rules.specs.typing.Signature.{sort_of}
 use Rattle.cv_typing.specs.Tables.{Map, above_of}
-use Rattle.cv_typing_rules.specs.Wants.{AnyTerm}
+use Rattle.cv_scope_rules.specs.typing.Wants.{AnyTerm}
 use Rattle.cv_scope_rules.specs.Phrases.{Phrase, OneCell, Term, is_phrase}
 use Rattle.cv_scene.specs.Sights.{Sight, is_cell_at, is_term_of}
 use Rattle.cv_scene.specs.Terms.{above_at, is_sort, is_term_at, names_at}

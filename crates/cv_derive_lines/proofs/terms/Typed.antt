@@ -4,9 +4,9 @@ use Rattle.std.specs.Prelude.{◌||◌, is_some}
 use Rattle.cv_syntax_trees.specs.declared.head.Head.{Head}
 use Rattle.cv_syntax_trees.specs.declared.head.Head.TheVariants.{Leaf, Read, Apply}
 use Rattle.cv_syntax_trees.specs.Tree.{Tree, Empty, Node}
-use Rattle.cv_typing_rules.specs.Signature.{Signature, Above}
-use Rattle.cv_typing_rules.specs.Typing.{fault_of}
-use Rattle.cv_typing_rules.specs.Wants.{Want, wants}
+use Rattle.cv_scope_rules.specs.typing.Signature.{Signature, Above}
+use Rattle.cv_scope_rules.specs.typing.Typing.{fault_of}
+use Rattle.cv_scope_rules.specs.typing.Wants.{Want, wants}
 use Rattle.cv_scene.specs.Terms.{Names}
 use Rattle.cv_derive_lines.specs.terms.Typed.{is_known_head, is_typed_tree}
 

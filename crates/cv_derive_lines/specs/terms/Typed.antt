@@ -10,10 +10,10 @@ use Rattle.cv_syntax_trees.specs.Tree.{Tree, Empty, Node}
 use Rattle.cv_directory_sorts.specs.declared.sort.Sort.{Sort}
 use Rattle.cv_directory_sorts.specs.Sites.{sites_of}
 use Rattle.cv_typing.specs.declared.arrays.Arrays.{Arrays}
-use Rattle.cv_typing_rules.specs.Signature.{Signature, Above, OfGame, variable_in}
+use Rattle.cv_scope_rules.specs.typing.Signature.{Signature, Above, OfGame, variable_in}
 use Rattle.cv_typing.specs.Tables.{Map, above_of, arrays_of}
-use Rattle.cv_typing_rules.specs.Typing.{fault_of}
-use Rattle.cv_typing_rules.specs.Wants.{Want, wants}
+use Rattle.cv_scope_rules.specs.typing.Typing.{fault_of}
+use Rattle.cv_scope_rules.specs.typing.Wants.{Want, wants}
 use Rattle.cv_scene.specs.Sights.{Sight}
 use Rattle.cv_scene.specs.Terms.{Names, above_at, is_function}
 

@@ -5,10 +5,10 @@ ghost use Rattle.cv_syntax.specs.Declarations.{declarations};
 ghost use Rattle.cv_syntax.specs.PoolTrees.{tree_at};
 ghost use Rattle.cv_typing.specs.Lookups.{HasLiveArguments, IsLiveWant, signature_in, want_of};
 ghost use Rattle.cv_directory.specs.Live.{IsLive};
-ghost use Rattle.cv_typing_rules.specs.Signature.{function_in, variable_in};
+ghost use Rattle.cv_scope_rules.specs.typing.Signature.{function_in, variable_in};
 ghost use Rattle.cv_directory_sorts.specs.Sorts.{same_sort};
 ghost use Rattle.cv_typing.specs.Tables.{above_of, arrays_of};
-ghost use Rattle.cv_typing_rules.specs.Typing.{fault_of};
+ghost use Rattle.cv_scope_rules.specs.typing.Typing.{fault_of};
 ghost use Rattle.cv_scene.specs.Sights as sights;
 ghost use Rattle.cv_scene.specs.Sights.{Sight};
 ghost use Rattle.cv_scene.specs.Terms as terms;
@@ -19,10 +19,10 @@ ghost use Rattle.cv_derive_lines.specs.terms.Typed.{IsSightOf, names_of};
 use crate::Claim;
 use cv_directory_sorts::Sort;
 use cv_scene_view::phrases::{Phrase, is_phrase};
+use cv_scope_rules::typing::Want;
 use cv_syntax::children::read_child;
 use cv_syntax::{Decls, Head, NodeId, Opened, Pool, Work, read_node};
 use cv_typing::{Arrays, function_sort, own_fault, sort_of_term, wants_below};
-use cv_typing_rules::Want;
 use std::collections::HashMap;
 
 /// Whether a name is a variable of the game.

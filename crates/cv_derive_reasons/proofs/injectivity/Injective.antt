@@ -13,7 +13,7 @@ use Rattle.cv_syntax.specs.Classes.{class_by, class_in, declaration_in}
 use Rattle.cv_syntax_trees.specs.Declarations.{Declaration}
 use Rattle.cv_syntax.specs.Declarations.{declarations, declared}
 use Rattle.cv_syntax_trees.specs.Tree.{Tree, Empty, Node, same_tree}
-use Rattle.cv_typing_rules.specs.Signature.{declaration_of}
+use Rattle.cv_scope_rules.specs.typing.Signature.{declaration_of}
 use Rattle.cv_typing.proofs.Bridges.{declaration_same}
 use Rattle.cv_scope_rules.specs.Context.{items}
 use Rattle.cv_scene.specs.Reasons.{is_data_by, is_injective}

@@ -3,7 +3,7 @@ use Rattle.std.specs.Prelude.{ℕ, Bool, false, ◌&&◌, ◌==◌, List}
 use Rattle.cv_syntax_trees.specs.declared.head.Head.TheVariants.{Apply}
 use Rattle.cv_syntax_trees.specs.Declarations.{Declaration}
 use Rattle.cv_syntax_trees.specs.Tree.{Tree, Node, same_tree}
-use Rattle.cv_typing_rules.specs.Signature.{declaration_of}
+use Rattle.cv_scope_rules.specs.typing.Signature.{declaration_of}
 use Rattle.cv_scope_rules.specs.Context.{items}
 use Rattle.cv_derive_rules.specs.Inferences.{equations_of}
 use Rattle.cv_scene.specs.Reasons.{is_data_by}

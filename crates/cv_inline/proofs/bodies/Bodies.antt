@@ -13,14 +13,14 @@ use Rattle.cv_meaning.specs.Candidates.{Candidate, candidates, candidates_at, ch
 use Rattle.cv_meaning.specs.Serving.{Served, serve, step, after_turn, after_find}
 use Rattle.cv_meaning_laws.specs.Agreement.{AgreeOn}
 use Rattle.cv_inline.proofs.bodies.Stores.{agree_then}
-use Rattle.cv_meaning_contexts.specs.Groups.{Group}
-use Rattle.cv_meaning_contexts.specs.Sites.{Site, is_below}
-use Rattle.cv_meaning_contexts.specs.Frames.{Frame, assigned, with_call}
-use Rattle.cv_meaning_contexts.specs.BodyTerms.{body_value}
-use Rattle.cv_meaning_contexts.specs.Finds.{Oracles, Pick, picks, picked}
-use Rattle.cv_meaning_contexts.specs.Bodies.{with_arguments, after_pick, body_place, body_answer, branch_answer}
-use Rattle.cv_meaning_contexts.specs.Made.{has_cell_at}
-use Rattle.cv_meaning_contexts.specs.Inlined.{Caller, Own, Scope, is_index_of, branch_indices, in_game, expanded, find_or_else, inlined_body, inlined_branch, inlined_call}
+use Rattle.cv_meaning.specs.contexts.Groups.{Group}
+use Rattle.cv_meaning.specs.contexts.Sites.{Site, is_below}
+use Rattle.cv_meaning.specs.contexts.Frames.{Frame, assigned, with_call}
+use Rattle.cv_meaning.specs.contexts.BodyTerms.{body_value}
+use Rattle.cv_meaning.specs.contexts.Finds.{Oracles, Pick, picks, picked}
+use Rattle.cv_meaning.specs.contexts.Bodies.{with_arguments, after_pick, body_place, body_answer, branch_answer}
+use Rattle.cv_meaning.specs.contexts.Made.{has_cell_at}
+use Rattle.cv_meaning.specs.contexts.Inlined.{Caller, Own, Scope, is_index_of, branch_indices, in_game, expanded, find_or_else, inlined_body, inlined_branch, inlined_call}
 use Rattle.cv_inline.specs.bodies.Inlining.{Inlining, Naming, plain, elsewhere}
 use Rattle.cv_inline.specs.bodies.Accepted.{IsFineTerm, AreFineCells, IsNeverAssigned, IsFineBody, AreFineBranches, IsFineCall}
 use Rattle.cv_inline.specs.bodies.Related.{MadeUnder, at_its_key, indices_at, IsSiteOf, AreSitesOf, HasKeys, IsAsBefore, IsServing, IsLater}

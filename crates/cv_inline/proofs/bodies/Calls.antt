@@ -10,14 +10,14 @@ use Rattle.cv_meaning.specs.Terms.{found_in, value, values}
 use Rattle.cv_meaning.specs.Serving.{Served, serve}
 use Rattle.cv_meaning_laws.specs.Agreement.{AgreeOn}
 use Rattle.cv_meaning_laws.proofs.Counts.{same_tuple_exact, same_tuple_refl}
-use Rattle.cv_meaning_contexts.specs.Groups.{Group}
-use Rattle.cv_meaning_contexts.specs.Sites.{Site}
-use Rattle.cv_meaning_contexts.specs.Frames.{Frame, IsValue, same_number}
-use Rattle.cv_meaning_contexts.specs.Bodies.{with_arguments, body_answer}
-use Rattle.cv_meaning_contexts.specs.Inlined.{Caller, TheKey, Scope, is_index_of, inlined_call}
+use Rattle.cv_meaning.specs.contexts.Groups.{Group}
+use Rattle.cv_meaning.specs.contexts.Sites.{Site}
+use Rattle.cv_meaning.specs.contexts.Frames.{Frame, IsValue, same_number}
+use Rattle.cv_meaning.specs.contexts.Bodies.{with_arguments, body_answer}
+use Rattle.cv_meaning.specs.contexts.Inlined.{Caller, TheKey, Scope, is_index_of, inlined_call}
 use Rattle.cv_inline.specs.bodies.Inlining.{Inlining, Naming, plain}
 use Rattle.cv_inline.specs.bodies.Accepted.{IsFineCall}
-use Rattle.cv_meaning_contexts.specs.KeyTerms.{AreFineKeyTerms}
+use Rattle.cv_meaning.specs.contexts.KeyTerms.{AreFineKeyTerms}
 use Rattle.cv_inline.specs.bodies.Related.{MadeUnder, with_made, at_its_key, indices_at, IsKept, this_call, IsMeant, AreSitesOf, HasKeys, IsOpened, IsAsBefore, IsServing, IsLater, KeyStays, AreRelated}
 use Rattle.cv_inline.proofs.bodies.Roles.{plain_elsewhere}
 use Rattle.cv_inline.proofs.bodies.Stages.{Scene, keys_agree, all_needed_agree}

@@ -8,11 +8,11 @@ use Rattle.cv_syntax_trees.specs.Tree.{Tree, Empty, Node, binders}
 use Rattle.cv_meaning.specs.Side.{CallNumber}
 use Rattle.cv_meaning.specs.Binders.{binder_count, widest_binder}
 use Rattle.cv_meaning.specs.Candidates.{tuples_up_to, most_indices, widest}
-use Rattle.cv_meaning_contexts.specs.Groups.{Group}
-use Rattle.cv_meaning_contexts.specs.Sites.{Site, is_below, sites_at, most_bounds, greatest, greatest_bound}
-use Rattle.cv_meaning_contexts.specs.Frames.{Frame, with_call}
-use Rattle.cv_meaning_contexts.specs.Finds.{Oracles, Pick, has_bound, function_of_site, is_pick, pick, picks_at, picks}
-use Rattle.cv_meaning_contexts.specs.Inlined.{Caller, Scope, index_terms, branch_indices, branch_for, with_call_of, expanded_at, expanded}
+use Rattle.cv_meaning.specs.contexts.Groups.{Group}
+use Rattle.cv_meaning.specs.contexts.Sites.{Site, is_below, sites_at, most_bounds, greatest, greatest_bound}
+use Rattle.cv_meaning.specs.contexts.Frames.{Frame, with_call}
+use Rattle.cv_meaning.specs.contexts.Finds.{Oracles, Pick, has_bound, function_of_site, is_pick, pick, picks_at, picks}
+use Rattle.cv_meaning.specs.contexts.Inlined.{Caller, Scope, index_terms, branch_indices, branch_for, with_call_of, expanded_at, expanded}
 use Rattle.cv_inline.specs.bodies.Inlining.{Inlining}
 use Rattle.cv_inline.specs.bodies.Accepted.{AreFineBranches}
 use Rattle.cv_inline.specs.bodies.Related.{IsSiteOf, AreSitesOf}

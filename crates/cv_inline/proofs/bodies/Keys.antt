@@ -11,10 +11,10 @@ use Rattle.cv_meaning.specs.Binders.{fits, bound_to}
 use Rattle.cv_meaning.specs.Candidates.{is_assigned, are_assigned}
 use Rattle.cv_meaning_laws.specs.Agreement.{AgreeOn}
 use Rattle.cv_inline.proofs.bodies.Stores.{bound_agree}
-use Rattle.cv_meaning_contexts.specs.Sites.{is_below}
-use Rattle.cv_meaning_contexts.specs.Inlined.{read_at, index_terms, moved_leaf, moved, needed, each_once, is_index_of, branch_indices, index_moves, index_reads, cells_then}
+use Rattle.cv_meaning.specs.contexts.Sites.{is_below}
+use Rattle.cv_meaning.specs.contexts.Inlined.{read_at, index_terms, moved_leaf, moved, needed, each_once, is_index_of, branch_indices, index_moves, index_reads, cells_then}
 use Rattle.cv_inline.specs.bodies.Inlining.{Inlining}
-use Rattle.cv_meaning_contexts.specs.KeyTerms.{IsFineKeyTerm, AreFineKeyTerms}
+use Rattle.cv_meaning.specs.contexts.KeyTerms.{IsFineKeyTerm, AreFineKeyTerms}
 use Rattle.cv_inline.specs.bodies.Related.{indices_at}
 use Rattle.cv_inline.proofs.bodies.Terms.{read_value}
 use Rattle.cv_lists.proofs.Each.{AllByRecursion_append}

@@ -10,15 +10,15 @@ use Rattle.cv_meaning.specs.Terms.{found_in}
 use Rattle.cv_meaning.specs.Binders.{fits, bound_to}
 use Rattle.cv_meaning.specs.Candidates.{Candidate, candidate, candidates_at, is_candidate, chosen}
 use Rattle.cv_meaning.specs.Serving.{Served, serve, step}
-use Rattle.cv_meaning_contexts.specs.Groups.{Group}
-use Rattle.cv_meaning_contexts.specs.Sites.{Site, is_below, sites_at}
-use Rattle.cv_meaning_contexts.specs.Frames.{Frame, with_call}
-use Rattle.cv_meaning_contexts.specs.Finds.{Oracles, Pick, has_bound, function_of_site, is_pick, pick, picks_at, picked}
-use Rattle.cv_meaning_contexts.specs.Made.{has_cell_at}
-use Rattle.cv_meaning_contexts.specs.Inlined.{Caller, Scope, index_terms, is_index_of, branch_indices, branch_for, with_call_of, expanded_at, expanded}
+use Rattle.cv_meaning.specs.contexts.Groups.{Group}
+use Rattle.cv_meaning.specs.contexts.Sites.{Site, is_below, sites_at}
+use Rattle.cv_meaning.specs.contexts.Frames.{Frame, with_call}
+use Rattle.cv_meaning.specs.contexts.Finds.{Oracles, Pick, has_bound, function_of_site, is_pick, pick, picks_at, picked}
+use Rattle.cv_meaning.specs.contexts.Made.{has_cell_at}
+use Rattle.cv_meaning.specs.contexts.Inlined.{Caller, Scope, index_terms, is_index_of, branch_indices, branch_for, with_call_of, expanded_at, expanded}
 use Rattle.cv_inline.specs.bodies.Inlining.{Inlining}
 use Rattle.cv_inline.specs.bodies.Accepted.{IsFineTerm, AreFineCells, IsNeverAssigned}
-use Rattle.cv_meaning_contexts.specs.KeyTerms.{AreFineKeyTerms}
+use Rattle.cv_meaning.specs.contexts.KeyTerms.{AreFineKeyTerms}
 use Rattle.cv_inline.specs.bodies.Related.{MadeUnder}
 use Rattle.cv_inline.proofs.bodies.Keys.{AreNames}
 use Rattle.cv_inline.proofs.bodies.Tests.{IsKnown, same_bodies, picked_made, no_candidate_there, no_pick_there}

@@ -4,10 +4,10 @@ use Rattle.cv_syntax_trees.specs.Tree.{Tree}
 use Rattle.cv_meaning.specs.Side.{Arrays, OracleCall, OracleAnswer}
 use Rattle.cv_meaning.specs.Memory.{Store, Happened}
 use Rattle.cv_meaning.specs.Serving.{Served, serve}
-use Rattle.cv_meaning_contexts.specs.Groups.{Function}
-use Rattle.cv_meaning_contexts.specs.Frames.{Frame}
-use Rattle.cv_meaning_contexts.specs.Bodies.{begun, with_arguments, with_coins, body_answer, function_called, function_answer, reply}
-use Rattle.cv_meaning_contexts.specs.Inlined.{TheKey, Scope, inlined_body, inlined_call}
+use Rattle.cv_meaning.specs.contexts.Groups.{Function}
+use Rattle.cv_meaning.specs.contexts.Frames.{Frame}
+use Rattle.cv_meaning.specs.contexts.Bodies.{begun, with_arguments, with_coins, body_answer, function_called, function_answer, reply}
+use Rattle.cv_meaning.specs.contexts.Inlined.{TheKey, Scope, inlined_body, inlined_call}
 use Rattle.cv_inline.specs.bodies.Inlining.{Inlining, Naming}
 use Rattle.cv_inline.specs.bodies.Accepted.{IsFineBody, IsFineCall}
 use Rattle.cv_inline.specs.bodies.Related.{MadeUnder, RunPair, with_made, this_call, oracles, at_store, IsAsBefore, IsUnderWay, IsServing, ArgumentsStay, IsCallToBeMade, ComesTo, KeepsMemories}

@@ -14,11 +14,11 @@ use Rattle.cv_meaning_laws.specs.Agreement.{AgreeOn}
 use Rattle.cv_meaning_laws.proofs.Agreeing.{values_agree}
 use Rattle.cv_inline.proofs.bodies.Stores.{bound_agree, bound_elsewhere, put_agree, put_elsewhere}
 use Rattle.cv_meaning_laws.proofs.Counts.{same_tuple_exact, same_tuple_refl}
-use Rattle.cv_meaning_contexts.specs.Frames.{Meaning, IsValue, IsCall, Frame, meaning_of, assigned, put_at, same_number, with_call}
-use Rattle.cv_meaning_contexts.specs.Inlined.{Standing, TheKey, Own, CallOf, Scope, standing_of, index_terms, is_index_of, needed, branch_indices, index_reads, read_at}
-use Rattle.cv_meaning_contexts.specs.Roles.{Role, TheKeyName, is_plain, is_seen, is_kept}
+use Rattle.cv_meaning.specs.contexts.Frames.{Meaning, IsValue, IsCall, Frame, meaning_of, assigned, put_at, same_number, with_call}
+use Rattle.cv_meaning.specs.contexts.Inlined.{Standing, TheKey, Own, CallOf, Scope, standing_of, index_terms, is_index_of, needed, branch_indices, index_reads, read_at}
+use Rattle.cv_meaning.specs.contexts.Roles.{Role, TheKeyName, is_plain, is_seen, is_kept}
 use Rattle.cv_inline.specs.bodies.Inlining.{Inlining, Naming, plain, elsewhere, seen, kept}
-use Rattle.cv_meaning_contexts.specs.KeyTerms.{IsFineKeyTerm, AreFineKeyTerms}
+use Rattle.cv_meaning.specs.contexts.KeyTerms.{IsFineKeyTerm, AreFineKeyTerms}
 use Rattle.cv_inline.specs.bodies.Related.{MadeUnder, at_its_key, this_call, IsMeant, HasArrays, IsOpened, IsAsBefore, IsServing, IsLater}
 use Rattle.cv_inline.proofs.bodies.Terms.{Agrees}
 use Rattle.cv_inline.proofs.bodies.Keys.{AreNames, index_tuple, fits_length}

@@ -7,12 +7,12 @@ use Rattle.cv_meaning.specs.Side.{CallNumber}
 use Rattle.cv_meaning.specs.Memory.{Store}
 use Rattle.cv_meaning.specs.Terms.{or_zero, bit, is_one, leaf_value_from, value, values}
 use Rattle.cv_meaning.specs.Candidates.{is_assigned}
-use Rattle.cv_meaning_contexts.specs.Frames.{Meaning, IsValue, IsCall, Frame, meaning_of}
-use Rattle.cv_meaning_contexts.specs.BodyTerms.{call_meant, call_at, array_at, plain_value, are_equal, body_value, body_values}
+use Rattle.cv_meaning.specs.contexts.Frames.{Meaning, IsValue, IsCall, Frame, meaning_of}
+use Rattle.cv_meaning.specs.contexts.BodyTerms.{call_meant, call_at, array_at, plain_value, are_equal, body_value, body_values}
 use Rattle.cv_inline.specs.bodies.Inlining.{Inlining}
 use Rattle.cv_inline.specs.bodies.Accepted.{IsFineArray, IsFineTerm, AreFineTerms}
 use Rattle.cv_inline.specs.bodies.Related.{MadeUnder, at_its_key, IsMeant, HasArrays}
-use Rattle.cv_meaning_contexts.specs.Inlined.{Standing, TheKey, Own, CallOf, Scope, standing_of, read_at, index_terms, own_variable, leaf_in_game, called, call_in, array_in_game, all_equal, indices_equal, in_game, and_equal, tuples_equal}
+use Rattle.cv_meaning.specs.contexts.Inlined.{Standing, TheKey, Own, CallOf, Scope, standing_of, read_at, index_terms, own_variable, leaf_in_game, called, call_in, array_in_game, all_equal, indices_equal, in_game, and_equal, tuples_equal}
 use Rattle.cv_meaning_laws.proofs.Counts.{same_tuple_refl}
 
 pub one_bit : (b : Bool) → is_one (bit b) ≡ b

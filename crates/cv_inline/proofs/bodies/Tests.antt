@@ -13,15 +13,15 @@ use Rattle.cv_meaning.specs.Binders.{fits, bound_to}
 use Rattle.cv_meaning.specs.Candidates.{is_assigned, are_assigned, is_candidate}
 use Rattle.cv_meaning_laws.specs.Agreement.{AgreeOn}
 use Rattle.cv_meaning_laws.proofs.Counts.{same_tuple_exact, same_tuple_refl}
-use Rattle.cv_meaning_contexts.specs.Frames.{IsCall, Frame, with_call, meaning_of}
-use Rattle.cv_meaning_contexts.specs.BodyTerms.{call_meant, call_at, array_at, body_value}
-use Rattle.cv_meaning_contexts.specs.Finds.{is_made, are_made, is_pick}
-use Rattle.cv_meaning_contexts.specs.Made.{is_index, has_cell_at}
+use Rattle.cv_meaning.specs.contexts.Frames.{IsCall, Frame, with_call, meaning_of}
+use Rattle.cv_meaning.specs.contexts.BodyTerms.{call_meant, call_at, array_at, body_value}
+use Rattle.cv_meaning.specs.contexts.Finds.{is_made, are_made, is_pick}
+use Rattle.cv_meaning.specs.contexts.Made.{is_index, has_cell_at}
 use Rattle.cv_inline.specs.bodies.Inlining.{Inlining}
 use Rattle.cv_inline.specs.bodies.Accepted.{IsFineArray, IsFineTerm, AreFineCells, IsNeverAssigned, is_assigned_above}
-use Rattle.cv_meaning_contexts.specs.KeyTerms.{AreFineKeyTerms}
+use Rattle.cv_meaning.specs.contexts.KeyTerms.{AreFineKeyTerms}
 use Rattle.cv_inline.specs.bodies.Related.{MadeUnder, at_its_key, indices_at, this_call, IsMeant, HasArrays}
-use Rattle.cv_meaning_contexts.specs.Inlined.{Caller, CallOf, Scope, standing_of, index_terms, called, call_in, array_in_game, all_equal, in_game, own_variable, cell_in_game, cells_in_game, moved, needed, each_once, is_index_of, branch_indices, index_moves, index_reads, cells_then, with_call_of}
+use Rattle.cv_meaning.specs.contexts.Inlined.{Caller, CallOf, Scope, standing_of, index_terms, called, call_in, array_in_game, all_equal, in_game, own_variable, cell_in_game, cells_in_game, moved, needed, each_once, is_index_of, branch_indices, index_moves, index_reads, cells_then, with_call_of}
 use Rattle.cv_inline.proofs.bodies.Terms.{Agrees, SameCall, calls_same, value_in, equal_value, read_assigned}
 use Rattle.cv_inline.proofs.bodies.Keys.{AreNames, moves_to, index_tuple, fits_length, terms_moved, key_cells, cells_behind}
 

@@ -4,7 +4,7 @@ use Rattle.cv_syntax_trees.specs.declared.head.Head.{Head}
 use Rattle.cv_syntax_trees.specs.declared.head.Head.TheVariants.{Leaf, Read, Eq}
 use Rattle.cv_syntax_trees.specs.Children.{is_empty}
 use Rattle.cv_syntax_trees.specs.Tree.{Tree, Empty, Node, first}
-use Rattle.cv_meaning_contexts.specs.Inlined.{Caller, Drawn, Scope, array_in_game, call_in, in_game, indices_equal, leaf_in_game, read_at, standing_of}
+use Rattle.cv_meaning.specs.contexts.Inlined.{Caller, Drawn, Scope, array_in_game, call_in, in_game, indices_equal, leaf_in_game, read_at, standing_of}
 use Rattle.cv_inline.specs.terms.Scopes.{both, same_call}
 
 pub read_at_Node : (y : ℕ) (t : Tree) → is_empty t ≡ false → read_at y t ≡ Node (Read y) t Empty

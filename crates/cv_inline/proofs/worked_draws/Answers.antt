@@ -1,6 +1,6 @@
 use Rattle.std.proofs.Common.{refl}
 use Rattle.cv_syntax_trees.specs.Tree.{size, subtree, same_tree}
-use Rattle.cv_meaning_contexts.specs.Inlined.{all_equal, in_game, cells_in_game, moved, needed, expanded_at, expanded, inlined_body, inlined_call}
+use Rattle.cv_meaning.specs.contexts.Inlined.{all_equal, in_game, cells_in_game, moved, needed, expanded_at, expanded, inlined_body, inlined_call}
 use Rattle.cv_inline.specs.NextGame.{names_assigned, call_of, callings_from, with_results, next_in}
 use Rattle.cv_inline.specs.Draws.{index_draws, body_draws, finds_in, labels_in}
 use Rattle.cv_inline.proofs.worked_draws.Goals as goal

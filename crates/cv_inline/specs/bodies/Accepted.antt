@@ -3,9 +3,9 @@ use Rattle.std.specs.Prelude.{◌≡◌, ℕ, suc, Bool, true, false, ◌==◌, 
 use Rattle.std.specs.List.{AllByRecursion}
 use Rattle.cv_syntax_trees.specs.declared.head.Head.TheVariants.{Leaf, Read, Apply, Eq, And, Or, Not, Cons, Binder, Branch, New, Let, If, Find}
 use Rattle.cv_syntax_trees.specs.Tree.{Tree, Empty, Node, first, first_place, second_place}
-use Rattle.cv_meaning_contexts.specs.Bodies.{body_place}
-use Rattle.cv_meaning_contexts.specs.Made.{has_cell_at}
-use Rattle.cv_meaning_contexts.specs.Inlined.{Caller, Standing, Own, Scope, standing_of, call_in, index_terms, with_call_of}
+use Rattle.cv_meaning.specs.contexts.Bodies.{body_place}
+use Rattle.cv_meaning.specs.contexts.Made.{has_cell_at}
+use Rattle.cv_meaning.specs.contexts.Inlined.{Caller, Standing, Own, Scope, standing_of, call_in, index_terms, with_call_of}
 use Rattle.cv_inline.specs.bodies.Inlining.{Inlining}
 
 -- the function has assigned the name above

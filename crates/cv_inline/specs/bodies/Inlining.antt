@@ -3,8 +3,8 @@ use Rattle.std.specs.Prelude.{◌≡◌, ℕ, ◌<◌, Bool, true, false, None}
 use Rattle.cv_meaning.specs.Interpretation.{Setting}
 use Rattle.cv_meaning.specs.Memory.{Store, Indices, tuple}
 use Rattle.cv_meaning.specs.Terms.{found_in, values}
-use Rattle.cv_meaning_contexts.specs.Inlined.{Drawn, Caller, index_terms, is_index_of, is_own}
-use Rattle.cv_meaning_contexts.specs.Roles.{Role, TheKeyName, Replication, Variable, Index, is_plain, is_elsewhere, is_seen, is_kept}
+use Rattle.cv_meaning.specs.contexts.Inlined.{Drawn, Caller, index_terms, is_index_of, is_own}
+use Rattle.cv_meaning.specs.contexts.Roles.{Role, TheKeyName, Replication, Variable, Index, is_plain, is_elsewhere, is_seen, is_kept}
 
 -- a caller at values of its indices, with the drawn names
 pub record Inlining : Type 0 where

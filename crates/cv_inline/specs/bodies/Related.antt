@@ -9,14 +9,14 @@ use Rattle.cv_meaning.specs.Terms.{found_in, values, value}
 use Rattle.cv_meaning.specs.Candidates.{is_assigned}
 use Rattle.cv_meaning.specs.Serving.{Served, serve}
 use Rattle.cv_meaning_laws.specs.Agreement.{AgreeOn}
-use Rattle.cv_meaning_contexts.specs.Groups.{Group}
-use Rattle.cv_meaning_contexts.specs.Sites.{Site}
-use Rattle.cv_meaning_contexts.specs.Frames.{Frame, Meaning, IsValue, IsCall, meaning_of, same_number}
-use Rattle.cv_meaning_contexts.specs.Finds.{Oracles, has_bound, function_of_site}
-use Rattle.cv_meaning_contexts.specs.Inlined.{Caller, Standing, TheKey, Own, CallOf, Scope, standing_of, is_index_of, needed}
+use Rattle.cv_meaning.specs.contexts.Groups.{Group}
+use Rattle.cv_meaning.specs.contexts.Sites.{Site}
+use Rattle.cv_meaning.specs.contexts.Frames.{Frame, Meaning, IsValue, IsCall, meaning_of, same_number}
+use Rattle.cv_meaning.specs.contexts.Finds.{Oracles, has_bound, function_of_site}
+use Rattle.cv_meaning.specs.contexts.Inlined.{Caller, Standing, TheKey, Own, CallOf, Scope, standing_of, is_index_of, needed}
 use Rattle.cv_inline.specs.bodies.Inlining.{Inlining, Naming, plain, elsewhere, seen, kept}
 use Rattle.cv_inline.specs.bodies.Accepted.{is_assigned_above}
-use Rattle.cv_meaning_contexts.specs.KeyTerms.{AreFineKeyTerms}
+use Rattle.cv_meaning.specs.contexts.KeyTerms.{AreFineKeyTerms}
 
 -- the tuple of the key under which each call was made, if it was made
 abbrev pub MadeUnder : Type 0

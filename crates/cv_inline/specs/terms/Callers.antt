@@ -6,7 +6,7 @@ use Rattle.std.specs.List.{list_any}
 use Rattle.cv_syntax_trees.specs.declared.head.Head.TheVariants.{Leaf}
 use Rattle.cv_syntax_trees.specs.Tree.{Tree, lone}
 use Rattle.cv_syntax.specs.PoolTrees.{tree_at}
-use Rattle.cv_meaning_contexts.specs.Inlined as bodies
+use Rattle.cv_meaning.specs.contexts.Inlined as bodies
 use Rattle.cv_inline.specs.declared.terms.caller.Caller.{Caller}
 use Rattle.cv_inline.specs.declared.terms.calling.Calling.{Calling}
 

@@ -1,7 +1,7 @@
 -- The drawn names that tables have. This profile's own.
 use Rattle.std.specs.Prelude.{ℕ, nat_eq, Bool, ◌&&◌, Option, Some, None}
 use Rattle.std.specs.HashMap.{get}
-use Rattle.cv_meaning_contexts.specs.Inlined.{Drawn}
+use Rattle.cv_meaning.specs.contexts.Inlined.{Drawn}
 use Rattle.cv_inline.specs.declared.terms.drawn.Drawing.{Drawing}
 use Rattle.cv_inline.specs.declared.terms.drawn.Index.{Index}
 

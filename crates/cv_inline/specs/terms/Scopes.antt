@@ -2,7 +2,7 @@
 use Rattle.std.specs.Prelude.{ℕ, ◌==◌, if◌then◌else◌, List, map, reverse, Option, Some, None}
 use Rattle.cv_syntax_trees.specs.declared.head.Head.TheVariants.{No}
 use Rattle.cv_syntax_trees.specs.Tree.{Tree, lone}
-use Rattle.cv_meaning_contexts.specs.Inlined as bodies
+use Rattle.cv_meaning.specs.contexts.Inlined as bodies
 use Rattle.cv_inline.specs.declared.terms.scope.Called.{Called}
 use Rattle.cv_inline.specs.declared.terms.scope.Entry.{Entry}
 use Rattle.cv_inline.specs.declared.terms.scope.Standing.{Standing}

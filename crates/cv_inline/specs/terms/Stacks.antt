@@ -4,7 +4,7 @@ use Rattle.cv_syntax_trees.specs.declared.head.Head.TheVariants.{Cons, Eq}
 use Rattle.cv_syntax.specs.declared.make.Make.{Make}
 use Rattle.cv_syntax.specs.Postorder.{made}
 use Rattle.cv_syntax_trees.specs.Tree.{Tree, Empty, Node}
-use Rattle.cv_meaning_contexts.specs.Inlined.{read_at}
+use Rattle.cv_meaning.specs.contexts.Inlined.{read_at}
 
 -- the trees, the newest first
 abbrev pub stack : List Make → List Tree

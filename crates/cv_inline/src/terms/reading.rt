@@ -1,6 +1,6 @@
 ghost use Rattle.std.specs.Prelude.{◌≡◌, ◌∷◌, IfOk, length};
-ghost use Rattle.cv_meaning_contexts.specs.Inlined as bodies;
-ghost use Rattle.cv_meaning_contexts.specs.Inlined.{and_equal, read_at};
+ghost use Rattle.cv_meaning.specs.contexts.Inlined as bodies;
+ghost use Rattle.cv_meaning.specs.contexts.Inlined.{and_equal, read_at};
 ghost use Rattle.cv_syntax_trees.specs.Tree as tree;
 ghost use Rattle.cv_syntax_trees.specs.declared.head.Head.TheVariants as head;
 ghost use Rattle.cv_inline.specs.terms.Drawings.{drawn_in};
@@ -81,7 +81,7 @@ pub fn read_tuple(
 }
 
 /// Adds the equation of two indices, and then the equations between the rest of the indices.
-#[tactic(auto, unfolding(crate::specs::terms::Stacks::tuple_at, cv_meaning_contexts::specs::Inlined::and_equal))]
+#[tactic(auto, unfolding(crate::specs::terms::Stacks::tuple_at, cv_meaning::specs::contexts::Inlined::and_equal))]
 fn equations(
     parts: &mut Vec<Make>,
     replications: &[(u32, u32)],

@@ -2,7 +2,7 @@ ghost use Rattle.std.specs.Prelude.{◌≡◌, length, option_map};
 ghost use Rattle.cv_pool.specs.Nodes.{ChildBelow};
 ghost use Rattle.cv_syntax_trees.specs.Tree.{Tree};
 ghost use Rattle.cv_syntax.specs.PoolTrees.{tree_at};
-ghost use Rattle.cv_meaning_contexts.specs.Inlined as bodies;
+ghost use Rattle.cv_meaning.specs.contexts.Inlined as bodies;
 ghost use Rattle.cv_inline.specs.terms.Scopes.{called_by, scope_in, standing_in};
 
 use cv_syntax::{Head, NodeId, Pool, read_node};

@@ -7,7 +7,7 @@ use Rattle.cv_syntax_trees.specs.declared.head.Head.{Head}
 use Rattle.cv_syntax_trees.specs.declared.head.Head.TheVariants.{Call, Repl}
 use Rattle.cv_syntax_trees.specs.Head.{weight}
 use Rattle.cv_syntax_trees.specs.Tree.{Tree, Empty, Node}
-use Rattle.cv_meaning_contexts.specs.Sites.{is_call}
+use Rattle.cv_meaning.specs.contexts.Sites.{is_call}
 use Rattle.cv_inline.specs.NextGame.{call_of, replications_under}
 use Rattle.cv_pool.specs.KindTree.{KindTree}
 use Rattle.cv_inline_draws.specs.callings.FirstCalls.{FirstCalls, Table, call_in, calls_in, with_calls, with_node}

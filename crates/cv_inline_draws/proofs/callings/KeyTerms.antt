@@ -2,7 +2,7 @@
 use Rattle.std.proofs.Common.{ℕ, Bool}
 use Rattle.cv_syntax_trees.specs.declared.head.Head.TheVariants.{Cons}
 use Rattle.cv_syntax_trees.specs.Tree.{Tree, Empty, Node}
-use Rattle.cv_meaning_contexts.specs.KeyTerms.{AreFineKeyTerms}
+use Rattle.cv_meaning.specs.contexts.KeyTerms.{AreFineKeyTerms}
 use Rattle.cv_inline_sites.specs.branches.Moves.{IsList}
 
 pub lists : (is_index plain : ℕ → Bool) (terms : Tree) → AreFineKeyTerms is_index plain terms → IsList terms

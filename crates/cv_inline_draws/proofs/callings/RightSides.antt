@@ -9,7 +9,7 @@ use Rattle.cv_syntax_trees.specs.declared.head.Head.{Head}
 use Rattle.cv_syntax_trees.specs.Tree.{Tree, Empty, Node, size}
 use Rattle.cv_syntax.specs.PoolTrees.{tree_at}
 use Rattle.cv_syntax.proofs.Walking.{below_some, size_node}
-use Rattle.cv_meaning_contexts.specs.Groups.{Function, function_of, functions_of}
+use Rattle.cv_meaning.specs.contexts.Groups.{Function, function_of, functions_of}
 use Rattle.cv_inline_draws.specs.callings.RightFunctions.{AreNodes, IsLiveFunction, function_in}
 use Rattle.cv_inline_draws.proofs.callings.Lists.{more}
 

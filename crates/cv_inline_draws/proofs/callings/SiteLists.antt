@@ -10,7 +10,7 @@ use Rattle.std.proofs.lemmas.Option.{slice_get-map, slice_get_past, slice_get_re
 use Rattle.cv_pool.specs.declared.node.NodeId.{NodeId}
 use Rattle.cv_pool.specs.KindTree.{KindTree}
 use Rattle.cv_syntax_trees.specs.Tree.{Tree, Empty, Node, first, second, size}
-use Rattle.cv_meaning_contexts.specs.Groups.{Function, Group, function_at}
+use Rattle.cv_meaning.specs.contexts.Groups.{Function, Group, function_at}
 use Rattle.cv_inline_sites.specs.branches.Moves.{IsList}
 use Rattle.cv_inline.specs.NextGame as game
 use Rattle.cv_inline.specs.NextGame.{call_of, calling, callings_from}

@@ -3,8 +3,8 @@ use Rattle.std.proofs.Common.{◌≡◌, ℕ, nat_eq, Bool, true, false, ◌&&�
 use Rattle.std.specs.Prelude.{cond}
 use Rattle.std.specs.HashMap.{HashMap, get, Updates}
 use Rattle.std.proofs.Math.Path.{fun_ext}
-use Rattle.cv_meaning_contexts.specs.Roles as roles
-use Rattle.cv_meaning_contexts.specs.Inlined.{Drawn}
+use Rattle.cv_meaning.specs.contexts.Roles as roles
+use Rattle.cv_meaning.specs.contexts.Inlined.{Drawn}
 use Rattle.cv_inline.specs.contracts.terms.drawn.IndexPartialEq.TheImpl.{ghosts}
 use Rattle.cv_inline.specs.declared.terms.drawn.Index.{Index}
 use Rattle.cv_inline.specs.terms.Drawings.{or_zero, same_index, same_pair}

@@ -6,7 +6,7 @@ use Rattle.std.proofs.lemmas.Bool.{ltb-true}
 use Rattle.std.proofs.lemmas.List.Elements.{All-weaker}
 use Rattle.std.proofs.lemmas.List.Sums.{AllPass-from_list_all}
 use Rattle.std.proofs.lemmas.List.{map-append, take_more}
-use Rattle.cv_meaning_contexts.specs.Inlined.{Drawn}
+use Rattle.cv_meaning.specs.contexts.Inlined.{Drawn}
 use Rattle.cv_inline.specs.Draws as of_games
 use Rattle.cv_inline.specs.Draws.{labels_from}
 use Rattle.cv_inline_sites.specs.declared.listing.draws.Draw.{Draw}

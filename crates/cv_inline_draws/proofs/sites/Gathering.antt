@@ -11,7 +11,7 @@ use Rattle.cv_inline_sites.specs.listing.Callings.{callers_in, calling_in, calli
 use Rattle.cv_inline.specs.terms.Callers.{caller_in}
 use Rattle.cv_syntax_trees.specs.Tree.{Tree, Empty, Node, first, second, size}
 use Rattle.cv_meaning.specs.Correspondences.{typed_names}
-use Rattle.cv_meaning_contexts.specs.Inlined.{Caller}
+use Rattle.cv_meaning.specs.contexts.Inlined.{Caller}
 use Rattle.cv_inline.specs.Draws.{Draw, argument_draws, body_draws}
 use Rattle.cv_inline_sites.specs.listing.Callings.{IsLiveCalling}
 use Rattle.cv_inline_draws.specs.sites.Parts.{draws_below, own_draws}

@@ -8,7 +8,7 @@ use Rattle.cv_pool.specs.Nodes.{ChildBelow}
 use Rattle.cv_syntax_trees.specs.declared.head.Head.{Head}
 use Rattle.cv_syntax_trees.specs.Tree.{Tree}
 use Rattle.cv_syntax.specs.PoolTrees.{tree_at}
-use Rattle.cv_meaning_contexts.specs.Sites.{is_call}
+use Rattle.cv_meaning.specs.contexts.Sites.{is_call}
 use Rattle.cv_inline.specs.NextGame.{call_of}
 use Rattle.cv_inline_draws.specs.declared.callings.calls.Call.{Call}
 use Rattle.cv_lists.specs.Options.{first_of}

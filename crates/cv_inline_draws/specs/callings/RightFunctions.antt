@@ -4,7 +4,7 @@ use Rattle.cv_pool.specs.declared.node.NodeId.{NodeId}
 use Rattle.cv_pool.specs.KindTree.{KindTree}
 use Rattle.cv_syntax_trees.specs.Tree.{Tree, Empty, Node, second, size}
 use Rattle.cv_syntax.specs.PoolTrees.{tree_at}
-use Rattle.cv_meaning_contexts.specs.Groups.{Function, Right, function_of, side_tree}
+use Rattle.cv_meaning.specs.contexts.Groups.{Function, Right, function_of, side_tree}
 use Rattle.cv_inline.specs.NextGame.{names_assigned}
 
 abbrev pub function_in : List KindTree → NodeId → Function

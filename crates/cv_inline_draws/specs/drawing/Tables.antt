@@ -1,7 +1,7 @@
 -- A table of drawn names, filled one by one. This profile's own.
 use Rattle.std.specs.Prelude.{ℕ, List, ◌∷◌, if◌then◌else◌}
-use Rattle.cv_meaning_contexts.specs.Roles.{Role, TheKeyName, Variable, Index}
-use Rattle.cv_meaning_contexts.specs.Inlined.{Drawn}
+use Rattle.cv_meaning.specs.contexts.Roles.{Role, TheKeyName, Variable, Index}
+use Rattle.cv_meaning.specs.contexts.Inlined.{Drawn}
 use Rattle.cv_inline.specs.Draws.{same_find, same_role}
 use Rattle.cv_inline_sites.specs.declared.listing.draws.Draw.{Draw}
 use Rattle.cv_inline_sites.specs.listing.Listed.{role_in}

@@ -1,6 +1,6 @@
 -- What the table of drawn names is. This profile's own.
 use Rattle.std.specs.Prelude.{◌≡◌, ℕ, ◌<◌, List, All, length, map}
-use Rattle.cv_meaning_contexts.specs.Inlined.{Drawn}
+use Rattle.cv_meaning.specs.contexts.Inlined.{Drawn}
 use Rattle.cv_inline.specs.Draws.{Draw, drawn_by, drawn_texts}
 use Rattle.cv_inline_draws.specs.names.Texts.{texts_at, with_texts}
 

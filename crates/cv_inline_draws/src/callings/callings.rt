@@ -1,7 +1,7 @@
 ghost use Rattle.std.specs.Prelude.{◌≡◌, ◌∷◌, ◌++◌, ◌<◌, ◌^◌, [], All, IfOk, OnOk, Some, length};
 ghost use Rattle.cv_syntax_trees.specs.Tree.{size};
 ghost use Rattle.cv_syntax.specs.PoolTrees.{tree_at};
-ghost use Rattle.cv_meaning_contexts.specs.Groups.{Right, side_group};
+ghost use Rattle.cv_meaning.specs.contexts.Groups.{Right, side_group};
 ghost use Rattle.cv_inline.specs.NextGame.{calling, callings_from};
 ghost use Rattle.cv_inline.specs.terms.Callers.{HasLiveCaller};
 ghost use Rattle.cv_inline_sites.specs.listing.Callings.{IsLiveCalling, calling_in, callings_in};

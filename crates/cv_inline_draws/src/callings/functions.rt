@@ -2,7 +2,7 @@ ghost use Rattle.std.specs.Prelude.{◌≡◌, ◌<◌, ◌^◌, All, IfOk, leng
 ghost use Rattle.cv_pool.specs.Nodes.{ChildBelow};
 ghost use Rattle.cv_syntax_trees.specs.Tree.{size};
 ghost use Rattle.cv_syntax.specs.PoolTrees.{tree_at};
-ghost use Rattle.cv_meaning_contexts.specs.Groups.{bound_of, functions_of};
+ghost use Rattle.cv_meaning.specs.contexts.Groups.{bound_of, functions_of};
 ghost use Rattle.cv_inline_draws.specs.callings.RightFunctions.{AreNodes, IsLiveFunction, function_in};
 
 use cv_syntax::children::read_child;

@@ -1,7 +1,7 @@
 ghost use Rattle.std.specs.Prelude.{◌≡◌, ◌<◌, All, IfOk, OnErr, length, map, take};
 ghost use Rattle.cv_pool.specs.Nodes.{ChildBelow};
 ghost use Rattle.cv_syntax.specs.PoolTrees.{tree_at};
-ghost use Rattle.cv_meaning_contexts.specs.Groups.{Group};
+ghost use Rattle.cv_meaning.specs.contexts.Groups.{Group};
 ghost use Rattle.cv_inline.specs.Draws.{labels_from, labels_in};
 ghost use Rattle.cv_inline.specs.Draws as of_games;
 ghost use Rattle.cv_inline_sites.specs.listing.Callings.{IsLiveCalling, callings_in};

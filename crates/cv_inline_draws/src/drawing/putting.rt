@@ -1,5 +1,5 @@
 ghost use Rattle.std.specs.Prelude.{◌≡◌, OnOk};
-ghost use Rattle.cv_meaning_contexts.specs.Roles as roles;
+ghost use Rattle.cv_meaning.specs.contexts.Roles as roles;
 ghost use Rattle.cv_inline_sites.specs.listing.Listed.{role_in};
 ghost use Rattle.cv_inline.specs.terms.Drawings.{drawn_in};
 ghost use Rattle.cv_inline_draws.specs.drawing.Tables.{nothing, with_label, with_name};

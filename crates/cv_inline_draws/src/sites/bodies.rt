@@ -1,7 +1,7 @@
 ghost use Rattle.std.specs.Prelude.{◌≡◌, ◌++◌, ◌∷◌, ◌<◌, [], ℕ, All, IfNone, IfOk, IfSome, List, flat_map};
 ghost use Rattle.cv_syntax.specs.PoolTrees.{tree_at};
 ghost use Rattle.cv_syntax.specs.Walks.{above};
-ghost use Rattle.cv_meaning_contexts.specs.Inlined.{Caller};
+ghost use Rattle.cv_meaning.specs.contexts.Inlined.{Caller};
 ghost use Rattle.cv_inline.specs.Draws.{branches_draws};
 ghost use Rattle.cv_inline_draws.specs.sites.Parts as parts;
 ghost use Rattle.cv_inline_draws.specs.sites.Parts.{draws_at, draws_below, if_draws};

@@ -2,8 +2,8 @@
 use Rattle.std.proofs.Common.{◌≡◌, ℕ, suc, Bool, true, false, cond, ◌==◌, List, [], ◌∷◌, ◌++◌, flat_map, map, sym, ap, ap₂, ◌∙◌}
 use Rattle.cv_syntax_trees.specs.declared.head.Head.TheVariants.{Cons, Binder, Branch, New, Let, If, Find}
 use Rattle.cv_syntax_trees.specs.Tree.{Tree, Empty, Node, binders, first_place, second_place}
-use Rattle.cv_meaning_contexts.specs.Bodies.{body_place}
-use Rattle.cv_meaning_contexts.specs.Inlined.{Drawn, Caller, Scope, Own, all_equal, branch_for, branch_indices, cells_in_game, cells_then, each_once, expanded, expanded_at, find_or_else, in_game, index_moves, index_terms, inlined_body, inlined_branch, inlined_call, is_index_of, moved, needed, with_call_of}
+use Rattle.cv_meaning.specs.contexts.Bodies.{body_place}
+use Rattle.cv_meaning.specs.contexts.Inlined.{Drawn, Caller, Scope, Own, all_equal, branch_for, branch_indices, cells_in_game, cells_then, each_once, expanded, expanded_at, find_or_else, in_game, index_moves, index_terms, inlined_body, inlined_branch, inlined_call, is_index_of, moved, needed, with_call_of}
 use Rattle.cv_inline_laws.specs.extents.Extents.{Measure, Extent, all_beside, beside, extent, front, of_body, of_branches, of_call, of_find, of_result, over_node, under}
 use Rattle.cv_inline_laws.proofs.extents.Measures.{IsMeasure, over_item, join_swap, zero_join}
 

@@ -3,7 +3,7 @@ use Rattle.std.proofs.Common.{◌≡◌, ℕ, Bool, true, false, cond, ◌==◌,
 use Rattle.cv_syntax_trees.specs.declared.head.Head.TheVariants.{In, Out, Event, Let, If, Branch, Leaf, Read, No, Key, Call}
 use Rattle.cv_syntax_trees.specs.Head.{weight}
 use Rattle.cv_syntax_trees.specs.Tree.{Tree, Empty, Node, lone, second}
-use Rattle.cv_meaning_contexts.specs.Inlined.{TheKey}
+use Rattle.cv_meaning.specs.contexts.Inlined.{TheKey}
 use Rattle.cv_inline.specs.NextGame.{Calling, InlinedCalls, Results, call_in_game, callers_of, next_in, numbered, result_for, with_results}
 use Rattle.cv_inline_laws.specs.extents.Extents.{Measure, Extent, Answers, all_along, answer_or, copies_of, extent, of_call_at, of_game, over_node, with_answers}
 use Rattle.cv_inline_laws.proofs.extents.Bodies.{IsLinear, has_call, has_result}

@@ -10,8 +10,8 @@ use Rattle.cv_meaning.specs.Memory.{Store, put}
 use Rattle.cv_meaning.specs.Binders.{bound_to}
 use Rattle.cv_meaning_laws.specs.Agreement.{AgreeOn}
 use Rattle.cv_meaning_laws.proofs.Counts.{same_tuple_exact}
-use Rattle.cv_meaning_contexts.specs.Inlined.{Caller}
-use Rattle.cv_meaning_contexts.specs.Roles.{Role, Plain, Gone, TheKeyName, Variable, is_plain}
+use Rattle.cv_meaning.specs.contexts.Inlined.{Caller}
+use Rattle.cv_meaning.specs.contexts.Roles.{Role, Plain, Gone, TheKeyName, Variable, is_plain}
 use Rattle.cv_inline.specs.bodies.Related.{MadeUnder, at_its_key, IsKept}
 use Rattle.cv_inline.proofs.bodies.Stores.{put_agree, bound_agree}
 use Rattle.cv_inline.specs.NextGame.{callers_of}

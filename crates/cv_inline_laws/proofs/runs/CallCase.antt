@@ -10,10 +10,10 @@ use Rattle.cv_meaning.specs.Terms.{values}
 use Rattle.cv_meaning.specs.Serving.{Served, serve}
 use Rattle.cv_meaning_laws.specs.Agreement.{AgreeOn}
 use Rattle.cv_meaning_laws.proofs.Agreeing.{values_agree}
-use Rattle.cv_meaning_contexts.specs.Groups.{Function}
-use Rattle.cv_meaning_contexts.specs.Bodies.{reply}
-use Rattle.cv_meaning_contexts.specs.Inlined.{Caller, TheKey, is_index_of, inlined_call}
-use Rattle.cv_meaning_contexts.specs.Roles.{Role, Plain, Replication, Gone, TheKeyName, Variable, Index, is_plain, is_elsewhere}
+use Rattle.cv_meaning.specs.contexts.Groups.{Function}
+use Rattle.cv_meaning.specs.contexts.Bodies.{reply}
+use Rattle.cv_meaning.specs.contexts.Inlined.{Caller, TheKey, is_index_of, inlined_call}
+use Rattle.cv_meaning.specs.contexts.Roles.{Role, Plain, Replication, Gone, TheKeyName, Variable, Index, is_plain, is_elsewhere}
 use Rattle.cv_inline.specs.bodies.Inlining.{Inlining, Naming}
 use Rattle.cv_inline.specs.bodies.Related.{MadeUnder, with_made, KeyStays, KeepsMemories}
 use Rattle.cv_inline.proofs.bodies.Stages.{keys_agree}

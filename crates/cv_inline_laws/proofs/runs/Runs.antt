@@ -9,11 +9,11 @@ use Rattle.cv_meaning.specs.Inputs.{Input}
 use Rattle.cv_meaning.specs.Serving.{serve, visits}
 use Rattle.cv_meaning.specs.Runs.{Mode, Events, Real, Random, Adversary, State, begun, serve_input, told}
 use Rattle.cv_meaning.specs.Experiments.{Experiment, mode_of, holds_on, run}
-use Rattle.cv_meaning_contexts.specs.Sides.{side_from}
+use Rattle.cv_meaning.specs.contexts.Sides.{side_from}
 use Rattle.cv_meaning_runs.specs.Simulation.{HaveSameEvents, AreServedAlike, AreAlike, IsSimulation}
 use Rattle.cv_meaning_runs.proofs.Simulation.{games_alike}
 use Rattle.cv_meaning_runs.proofs.Ends.{experiments_alike, holds_alike}
-use Rattle.cv_meaning_contexts.specs.Inlined.{Caller}
+use Rattle.cv_meaning.specs.contexts.Inlined.{Caller}
 use Rattle.cv_inline.specs.bodies.Related.{MadeUnder}
 use Rattle.cv_inline.specs.NextGame.{callers_of, next_in}
 use Rattle.cv_inline_laws.specs.runs.Texts.{is_ordinary, Text, oracles_in, KeyKeeps}

@@ -15,13 +15,13 @@ use Rattle.cv_meaning.specs.Inputs.{inputs_of}
 use Rattle.cv_meaning.specs.Serving.{Served, Sent, serve, step, visits, after_turn, after_find, key_tuple, oracle_call}
 use Rattle.cv_meaning_laws.proofs.Sides.{value_same, values_same, candidates_same}
 use Rattle.cv_meaning_laws.proofs.Counts.{same_tuple_exact, same_tuple_refl}
-use Rattle.cv_meaning_contexts.specs.Frames.{same_number}
-use Rattle.cv_meaning_contexts.specs.Sides.{side_from}
-use Rattle.cv_meaning_contexts.specs.Bodies.{reply}
+use Rattle.cv_meaning.specs.contexts.Frames.{same_number}
+use Rattle.cv_meaning.specs.contexts.Sides.{side_from}
+use Rattle.cv_meaning.specs.contexts.Bodies.{reply}
 use Rattle.cv_meaning_runs.specs.Simulation.{InOrder, AreServedAlike}
 use Rattle.cv_meaning_runs.proofs.Simulation.{in_order_append}
-use Rattle.cv_meaning_contexts.specs.Inlined.{index_terms}
-use Rattle.cv_meaning_contexts.specs.Roles.{Role, Plain, Replication, Gone, TheKeyName, Variable, Index, is_elsewhere, is_kept}
+use Rattle.cv_meaning.specs.contexts.Inlined.{index_terms}
+use Rattle.cv_meaning.specs.contexts.Roles.{Role, Plain, Replication, Gone, TheKeyName, Variable, Index, is_elsewhere, is_kept}
 use Rattle.cv_inline.specs.bodies.Related.{MadeUnder, with_made}
 use Rattle.cv_inline.proofs.bodies.Stages.{put_here}
 use Rattle.cv_inline.specs.NextGame.{Results, call_in_game, with_results, next_in}

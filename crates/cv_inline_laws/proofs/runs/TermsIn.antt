@@ -10,7 +10,7 @@ use Rattle.cv_meaning.specs.Binders.{fits, bound_to, binder_count, widest_binder
 use Rattle.cv_meaning.specs.Candidates.{are_assigned, candidate, candidates_at, candidates, most_indices, widest, tuples_up_to}
 use Rattle.cv_meaning_laws.specs.Agreement.{AgreeOn}
 use Rattle.cv_meaning_laws.proofs.Agreeing.{values_agree}
-use Rattle.cv_meaning_contexts.specs.Roles.{Gone}
+use Rattle.cv_meaning.specs.contexts.Roles.{Gone}
 use Rattle.cv_inline.specs.NextGame.{Results, result_for, with_results, next_in}
 use Rattle.cv_inline_laws.specs.runs.Texts.{is_ordinary, Text}
 use Rattle.cv_inline_laws.specs.runs.Contexts.{ordinary_in, Answers, IsAnswer, IsFineIn, AreFineIn, AreCells, AreFineBranchesIn, HaveAnswers}

@@ -3,7 +3,7 @@ use Rattle.std.proofs.Common.{◌≡◌, ℕ, suc, Bool, true, false, cond, ◌=
 use Rattle.cv_syntax_trees.specs.declared.head.Head.TheVariants.{Leaf, Read, Eq, No}
 use Rattle.cv_syntax_trees.specs.Head.{weight}
 use Rattle.cv_syntax_trees.specs.Tree.{Tree, Empty, Node, binders, chain, first, lone}
-use Rattle.cv_meaning_contexts.specs.Inlined.{Drawn, Caller, CallOf, Own, Scope, Standing, TheKey, all_equal, and_equal, array_in_game, branch_indices, call_in, called, cell_in_game, cells_in_game, cells_then, each_once, in_game, index_moves, index_reads, index_terms, indices_equal, is_index_of, is_own, leaf_in_game, moved, moved_leaf, needed, own_variable, read_at, standing_of, tuples_equal, with_call_of}
+use Rattle.cv_meaning.specs.contexts.Inlined.{Drawn, Caller, CallOf, Own, Scope, Standing, TheKey, all_equal, and_equal, array_in_game, branch_indices, call_in, called, cell_in_game, cells_in_game, cells_then, each_once, in_game, index_moves, index_reads, index_terms, indices_equal, is_index_of, is_own, leaf_in_game, moved, moved_leaf, needed, own_variable, read_at, standing_of, tuples_equal, with_call_of}
 use Rattle.cv_inline_laws.specs.extents.Extents.{Measure, extent, front, over_node}
 
 -- the same tree but for names that weigh nothing

@@ -3,10 +3,10 @@ use Rattle.std.proofs.Common.{◌≡◌, ℕ, suc, cond, ◌==◌, List, [], ◌
 use Rattle.cv_syntax_trees.specs.declared.head.Head.TheVariants.{In, Out, Event, New, Let, If, Find, Branch, Leaf, Read, Cons, Binder, Key, Call}
 use Rattle.cv_syntax_trees.specs.Head.{weight}
 use Rattle.cv_syntax_trees.specs.Tree.{Tree, Empty, Node, depth, size, second, first_place, second_place}
-use Rattle.cv_meaning_contexts.specs.Bodies.{body_place}
-use Rattle.cv_meaning_contexts.specs.Groups.{Group, Right, side_group}
-use Rattle.cv_meaning_contexts.specs.Sides.{Context}
-use Rattle.cv_meaning_contexts.specs.Inlined.{Drawn, Caller, Scope, TheKey, Own, in_game, index_terms, with_call_of}
+use Rattle.cv_meaning.specs.contexts.Bodies.{body_place}
+use Rattle.cv_meaning.specs.contexts.Groups.{Group, Right, side_group}
+use Rattle.cv_meaning.specs.contexts.Sides.{Context}
+use Rattle.cv_meaning.specs.contexts.Inlined.{Drawn, Caller, Scope, TheKey, Own, in_game, index_terms, with_call_of}
 use Rattle.cv_inline.specs.NextGame.{Calling, InlinedCalls, callers_of, callings_of, inlined_calls_of, next_of, numbered}
 use Rattle.cv_inline_laws.specs.extents.Extents.{Measure, Extent, Answers, all_along, all_nodes, beside, copies_of, extent, of_body, of_branches, of_call, of_call_at, of_find, longest_path, of_game, over_node, under, with_answers}
 use Rattle.cv_inline_laws.proofs.extents.Games.{next_measured}

@@ -12,15 +12,15 @@ use Rattle.cv_meaning.specs.Terms.{value}
 use Rattle.cv_meaning.specs.Serving.{serve, step, visits}
 use Rattle.cv_meaning.specs.Runs.{Events, taken, moved, run_from, visits_of_move, run_visits}
 use Rattle.cv_meaning.specs.Experiments.{visits_of_run}
-use Rattle.cv_meaning_contexts.specs.Sites.{bounds_above, sites_from, sites_of}
-use Rattle.cv_meaning_contexts.specs.Frames.{put_at}
-use Rattle.cv_meaning_contexts.specs.BodyTerms.{body_value}
-use Rattle.cv_meaning_contexts.specs.Finds.{picks_at, picks, picked}
-use Rattle.cv_meaning_contexts.specs.Bodies.{body_answer, branch_answer, reply}
-use Rattle.cv_meaning_contexts.specs.Inlined.{index_terms, needed}
-use Rattle.cv_meaning_contexts.specs.Roles.{Plain, Replication, Gone, Variable, Index, is_plain}
+use Rattle.cv_meaning.specs.contexts.Sites.{bounds_above, sites_from, sites_of}
+use Rattle.cv_meaning.specs.contexts.Frames.{put_at}
+use Rattle.cv_meaning.specs.contexts.BodyTerms.{body_value}
+use Rattle.cv_meaning.specs.contexts.Finds.{picks_at, picks, picked}
+use Rattle.cv_meaning.specs.contexts.Bodies.{body_answer, branch_answer, reply}
+use Rattle.cv_meaning.specs.contexts.Inlined.{index_terms, needed}
+use Rattle.cv_meaning.specs.contexts.Roles.{Plain, Replication, Gone, Variable, Index, is_plain}
 use Rattle.cv_inline.specs.bodies.Accepted.{IsFineTerm, IsFineBody, IsFineCall}
-use Rattle.cv_meaning_contexts.specs.KeyTerms.{IsFineKeyTerm}
+use Rattle.cv_meaning.specs.contexts.KeyTerms.{IsFineKeyTerm}
 use Rattle.cv_inline.specs.NextGame.{Calling, names_assigned, call_of, callings_from, inlined_calls_of}
 use Rattle.cv_inline.specs.Draws.{same_role, same_find, index_draws, body_draws, finds_in, name_for, is_drawn}
 use Rattle.cv_inline.specs.Worked.{at, one_sender}

@@ -13,9 +13,9 @@ use Rattle.cv_meaning.specs.Memory.{Store, Memory, Indices, Local, tuple}
 use Rattle.cv_meaning.specs.Terms.{found_in, values, value}
 use Rattle.cv_meaning.specs.Inputs.{Input, message_binders}
 use Rattle.cv_meaning.specs.Serving.{Visit, key_tuple}
-use Rattle.cv_meaning_contexts.specs.Sides.{side_from}
-use Rattle.cv_meaning_contexts.specs.Inlined.{index_terms}
-use Rattle.cv_meaning_contexts.specs.Roles.{Plain, Gone}
+use Rattle.cv_meaning.specs.contexts.Sides.{side_from}
+use Rattle.cv_meaning.specs.contexts.Inlined.{index_terms}
+use Rattle.cv_meaning.specs.contexts.Roles.{Plain, Gone}
 use Rattle.cv_inline.specs.bodies.Related.{MadeUnder}
 use Rattle.cv_inline.specs.NextGame.{Calling, Results, numbered, next_in}
 use Rattle.cv_inline_laws.specs.runs.Texts.{IsLaterIn, Text, is_ordinary, oracles_in, IsExpectedCall, IsFineCalling, AreRelatedIn}

@@ -10,15 +10,15 @@ use Rattle.cv_meaning.specs.Terms.{found_in, values, value}
 use Rattle.cv_meaning.specs.Candidates.{is_assigned}
 use Rattle.cv_meaning.specs.Serving.{Served, serve}
 use Rattle.cv_meaning_laws.specs.Agreement.{AgreeOn}
-use Rattle.cv_meaning_contexts.specs.Groups.{Function}
-use Rattle.cv_meaning_contexts.specs.Sites.{Site}
-use Rattle.cv_meaning_contexts.specs.Finds.{Oracles}
-use Rattle.cv_meaning_contexts.specs.Bodies.{function_called}
-use Rattle.cv_meaning_contexts.specs.Inlined.{Caller, TheKey, index_terms, is_index_of, is_own, needed}
-use Rattle.cv_meaning_contexts.specs.Roles.{Role, Plain, Replication, Gone, TheKeyName, Variable, Index, is_plain, is_elsewhere, is_kept}
+use Rattle.cv_meaning.specs.contexts.Groups.{Function}
+use Rattle.cv_meaning.specs.contexts.Sites.{Site}
+use Rattle.cv_meaning.specs.contexts.Finds.{Oracles}
+use Rattle.cv_meaning.specs.contexts.Bodies.{function_called}
+use Rattle.cv_meaning.specs.contexts.Inlined.{Caller, TheKey, index_terms, is_index_of, is_own, needed}
+use Rattle.cv_meaning.specs.contexts.Roles.{Role, Plain, Replication, Gone, TheKeyName, Variable, Index, is_plain, is_elsewhere, is_kept}
 use Rattle.cv_inline.specs.bodies.Inlining.{Inlining, Naming}
 use Rattle.cv_inline.specs.bodies.Accepted.{IsFineCall}
-use Rattle.cv_meaning_contexts.specs.KeyTerms.{AreFineKeyTerms}
+use Rattle.cv_meaning.specs.contexts.KeyTerms.{AreFineKeyTerms}
 use Rattle.cv_inline.specs.bodies.Related.{MadeUnder, RunPair, with_made, at_its_key, indices_at, IsKept, AreSitesOf}
 use Rattle.cv_inline.specs.NextGame.{InlinedCalls, callers_of}
 

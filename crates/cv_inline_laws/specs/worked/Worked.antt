@@ -2,9 +2,9 @@
 use Rattle.std.specs.Prelude.{ℕ, ◌==◌, ◌||◌, if◌then◌else◌, List, [], ◌∷◌, Option, Some, None}
 use Rattle.cv_meaning.specs.Interpretation.{Setting, setting_of}
 use Rattle.cv_meaning.specs.Runs.{Adversary, Move, Calls, Answer}
-use Rattle.cv_meaning_contexts.specs.Worked.{parity, apply}
-use Rattle.cv_meaning_contexts.specs.Inlined.{Drawn}
-use Rattle.cv_meaning_contexts.specs.Roles.{Role, Plain, Replication, Gone}
+use Rattle.cv_meaning.specs.contexts.Worked.{parity, apply}
+use Rattle.cv_meaning.specs.contexts.Inlined.{Drawn}
+use Rattle.cv_meaning.specs.contexts.Roles.{Role, Plain, Replication, Gone}
 use Rattle.cv_inline.specs.NextGame.{Calling, callings_of}
 use Rattle.cv_inline.specs.Draws.{roles_of, label_draws, drawn_by, drawn_for}
 use Rattle.cv_syntax_trees.specs.Tree.{Empty}

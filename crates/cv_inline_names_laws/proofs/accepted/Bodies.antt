@@ -5,11 +5,11 @@ use Rattle.std.specs.List.{AllByRecursion}
 use Rattle.cv_syntax_trees.specs.declared.head.Head.{Head}
 use Rattle.cv_syntax_trees.specs.declared.head.Head.TheVariants.{Leaf, Read, Apply, Eq, And, Or, Not, Yes, No, Cons, Binder, Branch, New, Let, If, Find}
 use Rattle.cv_syntax_trees.specs.Tree.{Tree, Empty, Node, first, first_place, second_place}
-use Rattle.cv_meaning_contexts.specs.Bodies.{body_place}
-use Rattle.cv_meaning_contexts.specs.Made.{has_cell_at}
-use Rattle.cv_group_rules.specs.Rules.{Around, Defined, Found, Level, are_cells, defines, has_name, has_read, index_in, is_asked_at, is_bound, is_readable, range_of}
+use Rattle.cv_meaning.specs.contexts.Bodies.{body_place}
+use Rattle.cv_meaning.specs.contexts.Made.{has_cell_at}
+use Rattle.cv_group.specs.rules.Rules.{Around, Defined, Found, Level, are_cells, defines, has_name, has_read, index_in, is_asked_at, is_bound, is_readable, range_of}
 use Rattle.cv_inline.specs.bodies.Accepted.{AreFineBranches, AreFineCells, AreFineTerms, IsFineArray, IsFineBody, IsFineTerm, IsNeverAssigned, scope_for}
-use Rattle.cv_meaning_contexts.specs.Inlined.{Caller, CallOf, Own, Scope, call_in, index_reads, index_terms}
+use Rattle.cv_meaning.specs.contexts.Inlined.{Caller, CallOf, Own, Scope, call_in, index_reads, index_terms}
 use Rattle.cv_inline.specs.bodies.Inlining.{Inlining}
 use Rattle.cv_inline.specs.Draws.{finds_in}
 use Rattle.cv_inline_names_laws.specs.accepted.RightBodies.{are_body_cells, are_body_terms, are_right_branches, is_body_term, is_right_body}

@@ -24,13 +24,13 @@ use Rattle.cv_meaning_runs.specs.Moments.{cells_of_run}
 use Rattle.cv_meaning_runs.proofs.Listed.{cells_listed}
 use Rattle.cv_meaning_runs.proofs.Together.{consulted_same}
 use Rattle.cv_meaning_chances.proofs.alignment.Closing.{equal_under_names, others_ignored_in_games}
-use Rattle.cv_meaning_contexts.specs.Groups.{Right}
-use Rattle.cv_meaning_contexts.specs.Sites.{sites_of}
-use Rattle.cv_meaning_contexts.specs.Sides.{Context, side_from}
-use Rattle.cv_meaning_contexts.specs.ContextAdvantage.{context_chance}
+use Rattle.cv_meaning.specs.contexts.Groups.{Right}
+use Rattle.cv_meaning.specs.contexts.Sites.{sites_of}
+use Rattle.cv_meaning.specs.contexts.Sides.{Context, side_from}
+use Rattle.cv_meaning.specs.contexts.ContextAdvantage.{context_chance}
 use Rattle.cv_meaning_chances.proofs.contexts.Locality.{local}
-use Rattle.cv_meaning_contexts.specs.Inlined.{Drawn}
-use Rattle.cv_meaning_contexts.specs.Roles.{Role, Plain, Replication, Gone, TheKeyName, Variable, Index}
+use Rattle.cv_meaning.specs.contexts.Inlined.{Drawn}
+use Rattle.cv_meaning.specs.contexts.Roles.{Role, Plain, Replication, Gone, TheKeyName, Variable, Index}
 use Rattle.cv_inline.specs.Draws.{same_role}
 use Rattle.cv_inline.specs.NextGame.{inlined_calls_of, next_in, next_of}
 use Rattle.cv_inline_laws.specs.runs.Texts.{Text, oracles_in}
@@ -40,7 +40,7 @@ use Rattle.cv_inline_names_laws.specs.cells.Cells.{RightNames, at_right, find_fo
 use Rattle.cv_inline_names_laws.specs.cells.Layout.{IsLaidOut, Types}
 use Rattle.cv_inline_names_laws.proofs.cells.Swaps.{back, one_to_one}
 use Rattle.cv_inline_names_laws.proofs.cells.Sizes.{IsAskedPlain, IsKnown, IsOfKey, context_sized, context_testable, next_known, next_no_calls, next_testable, same_size, size_of}
-use Rattle.cv_inline_draws_laws.proofs.Fresh.{either_way}
+use Rattle.cv_inline_laws.proofs.draws.Fresh.{either_way}
 
 -- lists
 

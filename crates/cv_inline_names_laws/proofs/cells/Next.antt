@@ -6,9 +6,9 @@ use Rattle.cv_syntax_trees.specs.declared.head.Head.{Head}
 use Rattle.cv_syntax_trees.specs.declared.head.Head.TheVariants.{In, Out, Event, New, Let, If, Find, Branch, Leaf, Read, No, Cons, Binder, Key, Call}
 use Rattle.cv_syntax_trees.specs.Tree.{Tree, Empty, Node, binders, first_place, lone, second, second_place}
 use Rattle.cv_meaning.specs.Cells.{bounds_under}
-use Rattle.cv_meaning_contexts.specs.Bodies.{body_place}
-use Rattle.cv_meaning_contexts.specs.Roles.{Plain}
-use Rattle.cv_meaning_contexts.specs.Inlined.{Drawn, Caller, TheKey, Own, Scope, branch_for, branch_indices, cells_in_game, cells_then, each_once, expanded, expanded_at, find_or_else, in_game, index_moves, index_terms, inlined_body, inlined_branch, inlined_call, is_index_of, moved, needed, with_call_of}
+use Rattle.cv_meaning.specs.contexts.Bodies.{body_place}
+use Rattle.cv_meaning.specs.contexts.Roles.{Plain}
+use Rattle.cv_meaning.specs.contexts.Inlined.{Drawn, Caller, TheKey, Own, Scope, branch_for, branch_indices, cells_in_game, cells_then, each_once, expanded, expanded_at, find_or_else, in_game, index_moves, index_terms, inlined_body, inlined_branch, inlined_call, is_index_of, moved, needed, with_call_of}
 use Rattle.cv_inline.specs.NextGame.{Calling, Results, call_in_game, callers_of, game_name, next_in, numbered, with_results}
 use Rattle.cv_inline_laws.specs.runs.Texts.{Text}
 use Rattle.cv_inline_names_laws.specs.cells.Layout.{AreRightBranches, IsCallText, IsContextText, IsPattern, IsRightText, IsTypedBy, Types, is_term_head}

@@ -13,11 +13,11 @@ use Rattle.cv_meaning.specs.Cells.{at_each_copy, bounds_under, cells, cells_at, 
 use Rattle.cv_meaning_laws.proofs.Lists.{each_flat_map}
 use Rattle.cv_meaning_laws.proofs.Listed.{Has, each_flat_map_in, has_flat_map, has_left, is_in_without_repeats}
 use Rattle.cv_meaning_runs.specs.Listed.{IsTestable, has_no_calls, head_is_no_call, head_is_testable, is_testable}
-use Rattle.cv_meaning_contexts.specs.Groups.{Function, Group, function_at}
-use Rattle.cv_meaning_contexts.specs.Sites.{is_call}
-use Rattle.cv_meaning_contexts.specs.Sides.{body_cells, cells_here, chosen_cell, function_cells}
-use Rattle.cv_meaning_contexts.specs.Bodies.{function_called}
-use Rattle.cv_meaning_contexts.specs.Roles.{Role, Plain, Replication, Gone, TheKeyName, Variable, Index}
+use Rattle.cv_meaning.specs.contexts.Groups.{Function, Group, function_at}
+use Rattle.cv_meaning.specs.contexts.Sites.{is_call}
+use Rattle.cv_meaning.specs.contexts.Sides.{body_cells, cells_here, chosen_cell, function_cells}
+use Rattle.cv_meaning.specs.contexts.Bodies.{function_called}
+use Rattle.cv_meaning.specs.contexts.Roles.{Role, Plain, Replication, Gone, TheKeyName, Variable, Index}
 use Rattle.cv_inline.specs.Draws.{same_role}
 use Rattle.cv_inline.specs.NextGame.{Calling, call_of, calling, callings_from, next_in, replications_under}
 use Rattle.cv_inline_laws.specs.runs.Texts.{Text, oracles_in}

@@ -5,7 +5,7 @@ use Rattle.cv_meaning.specs.Tapes.{Cell, New_at, Find_at, Test_at, Key_at, Made_
 use Rattle.cv_meaning.specs.Cells.{coin_cells}
 use Rattle.cv_meaning_chances.specs.Tests.{IsOneToOne}
 use Rattle.cv_meaning_runs.specs.Agreement.{AgreeAt}
-use Rattle.cv_meaning_contexts.specs.Roles.{Role, Plain, Replication, Gone, TheKeyName, Variable, Index}
+use Rattle.cv_meaning.specs.contexts.Roles.{Role, Plain, Replication, Gone, TheKeyName, Variable, Index}
 use Rattle.cv_inline.specs.Draws.{same_find, same_role}
 use Rattle.cv_inline.proofs.Named.{same_find_exact, same_role_exact}
 use Rattle.cv_inline_laws.specs.runs.Texts.{Text}

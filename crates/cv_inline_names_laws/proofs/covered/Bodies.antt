@@ -5,10 +5,10 @@ use Rattle.std.specs.List.{AllByRecursion}
 use Rattle.cv_syntax_trees.specs.declared.head.Head.{Head}
 use Rattle.cv_syntax_trees.specs.declared.head.Head.TheVariants.{New, Let, If, Find, Branch, Cons, Binder}
 use Rattle.cv_syntax_trees.specs.Tree.{Tree, Empty, Node, first_place, second_place}
-use Rattle.cv_group_rules.specs.Rules.{defines, defines_here}
-use Rattle.cv_meaning_contexts.specs.Inlined.{Caller}
+use Rattle.cv_group.specs.rules.Rules.{defines, defines_here}
+use Rattle.cv_meaning.specs.contexts.Inlined.{Caller}
 use Rattle.cv_inline.specs.Draws.{finds_in}
-use Rattle.cv_inline_draws_laws.specs.DrawnNames.{AreBranchesDrawn, AreIndicesDrawn, DrawnNames, IsBodyDrawn, has_find, has_indices, has_name}
+use Rattle.cv_inline_laws.specs.draws.DrawnNames.{AreBranchesDrawn, AreIndicesDrawn, DrawnNames, IsBodyDrawn, has_find, has_indices, has_name}
 use Rattle.cv_inline_names_laws.specs.accepted.Drawn.{Opening, opening_if, openings_at, openings_in}
 use Rattle.cv_inline_names_laws.specs.accepted.RightBodies.{are_right_branches, is_body_term, is_empty, is_right_body}
 use Rattle.cv_inline_names_laws.specs.cells.Layout.{are_right_texts, is_right_text, is_term, is_term_head}

@@ -7,16 +7,16 @@ use Rattle.cv_syntax.specs.NameSets.{is_one_of}
 use Rattle.cv_syntax_trees.specs.Tree.{Tree, Empty, Node, bound_names, first, second}
 use Rattle.cv_meaning.specs.Correspondences.{typed_names}
 use Rattle.cv_meaning_laws.proofs.Listed.{Has}
-use Rattle.cv_meaning_contexts.specs.Groups.{Function, Group, Right, bound_of, function_at, function_of, functions_of, side_group}
-use Rattle.cv_group_rules.specs.Symbols.{Symbols}
-use Rattle.cv_group_rules.specs.Faults.{IsAccepted, SameShape}
-use Rattle.cv_group_rules.specs.Rules.{are_distinct, binds_name, bounds, defines, functions_in, groups_agree, names_of, takes}
-use Rattle.cv_meaning_contexts.specs.Inlined.{Caller}
+use Rattle.cv_meaning.specs.contexts.Groups.{Function, Group, Right, bound_of, function_at, function_of, functions_of, side_group}
+use Rattle.cv_group.specs.rules.Symbols.{Symbols}
+use Rattle.cv_group.specs.rules.Faults.{IsAccepted, SameShape}
+use Rattle.cv_group.specs.rules.Rules.{are_distinct, binds_name, bounds, defines, functions_in, groups_agree, names_of, takes}
+use Rattle.cv_meaning.specs.contexts.Inlined.{Caller}
 use Rattle.cv_inline.specs.bodies.Inlining.{Inlining}
-use Rattle.cv_meaning_contexts.specs.Roles.{Role}
+use Rattle.cv_meaning.specs.contexts.Roles.{Role}
 use Rattle.cv_inline.specs.NextGame.{Calling, call_of, callers_of, calling, callings_from}
-use Rattle.cv_inline_draws_laws.specs.DrawnNames.{DrawnNames, IsCallDrawn, has_find, has_indices, has_name, names_of_draws}
-use Rattle.cv_inline_draws_laws.proofs.Covered.{calls_covered}
+use Rattle.cv_inline_laws.specs.draws.DrawnNames.{DrawnNames, IsCallDrawn, has_find, has_indices, has_name, names_of_draws}
+use Rattle.cv_inline_laws.proofs.draws.Covered.{calls_covered}
 use Rattle.cv_inline_names_laws.specs.accepted.Drawn.{IsDrawnFor}
 use Rattle.cv_inline_names_laws.specs.accepted.RightBodies.{are_right_functions, is_empty, is_one_name, is_right_body, is_right_side}
 use Rattle.cv_inline_names_laws.specs.cells.Layout.{IsRightFunction}

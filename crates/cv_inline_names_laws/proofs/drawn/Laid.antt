@@ -12,17 +12,17 @@ use Rattle.cv_meaning.specs.Runs.{Adversary, Events}
 use Rattle.cv_meaning.specs.Experiments.{Experiment, mode_of}
 use Rattle.cv_meaning.specs.Chances.{Same}
 use Rattle.cv_meaning.specs.Advantage.{chance_of}
-use Rattle.cv_meaning_contexts.specs.ContextAdvantage.{context_chance}
+use Rattle.cv_meaning.specs.contexts.ContextAdvantage.{context_chance}
 use Rattle.cv_inline_laws.specs.runs.Contexts.{IsTextOf}
 use Rattle.cv_meaning_laws.proofs.Listed.{Has}
-use Rattle.cv_meaning_contexts.specs.Groups.{Function, Right, side_group}
-use Rattle.cv_meaning_contexts.specs.Bodies.{body_place, function_called}
-use Rattle.cv_meaning_contexts.specs.Finds.{function_of_site}
-use Rattle.cv_meaning_contexts.specs.Sites.{Site, site_numbered, sites_of}
-use Rattle.cv_meaning_contexts.specs.Inlined.{Caller}
+use Rattle.cv_meaning.specs.contexts.Groups.{Function, Right, side_group}
+use Rattle.cv_meaning.specs.contexts.Bodies.{body_place, function_called}
+use Rattle.cv_meaning.specs.contexts.Finds.{function_of_site}
+use Rattle.cv_meaning.specs.contexts.Sites.{Site, site_numbered, sites_of}
+use Rattle.cv_meaning.specs.contexts.Inlined.{Caller}
 use Rattle.cv_inline.specs.NextGame.{Calling, callers_of, callings_of, next_of}
-use Rattle.cv_inline_draws_laws.specs.DrawnNames.{AreBranchesDrawn, AreIndicesDrawn, DrawnNames, IsBodyDrawn, IsCallDrawn, drawn_in, find_in, has_indices}
-use Rattle.cv_inline_draws_laws.proofs.Covered.{calls_covered}
+use Rattle.cv_inline_laws.specs.draws.DrawnNames.{AreBranchesDrawn, AreIndicesDrawn, DrawnNames, IsBodyDrawn, IsCallDrawn, drawn_in, find_in, has_indices}
+use Rattle.cv_inline_laws.proofs.draws.Covered.{calls_covered}
 use Rattle.cv_inline_laws.specs.runs.Texts.{Text, oracles_in}
 use Rattle.cv_inline_names_laws.specs.cells.Layout.{AreRightBranches, IsCallText, IsContextText, IsLaidOut, IsRightFunction, IsRightText, IsTypedBy, IsTypedFunction, are_right_texts, is_right_text, is_term}
 use Rattle.cv_inline_names_laws.specs.drawn.Named.{NamedContext, arity_in, indices_of, named_on_tape, names_of, text_of, type_called, types_of}

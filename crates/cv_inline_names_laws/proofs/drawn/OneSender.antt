@@ -7,13 +7,13 @@ use Rattle.cv_syntax_trees.specs.declared.head.Head.TheVariants.{New}
 use Rattle.cv_syntax_trees.specs.Tree.{Tree, Empty, Node, size}
 use Rattle.cv_meaning.specs.Interpretation.{setting_of}
 use Rattle.cv_meaning.specs.Tapes.{blank}
-use Rattle.cv_meaning_contexts.specs.Groups.{Right, side_group}
-use Rattle.cv_meaning_contexts.specs.Worked.{parity}
-use Rattle.cv_meaning_contexts.specs.Roles.{Gone}
+use Rattle.cv_meaning.specs.contexts.Groups.{Right, side_group}
+use Rattle.cv_meaning.specs.contexts.Worked.{parity}
+use Rattle.cv_meaning.specs.contexts.Roles.{Gone}
 use Rattle.cv_inline.specs.NextGame.{call_of, callings_from, names_assigned}
 use Rattle.cv_inline.specs.Draws.{body_draws, finds_in, index_draws}
 use Rattle.cv_inline.specs.Worked.{one_sender}
-use Rattle.cv_inline_draws_laws.specs.DrawnNames.{role_in}
+use Rattle.cv_inline_laws.specs.draws.DrawnNames.{role_in}
 use Rattle.cv_inline_names_laws.specs.cells.Layout.{IsContextText, IsPattern, IsRightFunction, IsTypedBy, is_right_text, is_term}
 use Rattle.cv_inline_names_laws.specs.drawn.Named.{NamedContext, drawn_for_context, text_of}
 use Rattle.cv_inline_names_laws.specs.drawn.Worked.{answer_there, drawn_numbers, role_there, type_there}

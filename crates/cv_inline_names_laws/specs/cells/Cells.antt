@@ -3,8 +3,8 @@
 -- swapped, so that none is lost, is this profile's own.
 use Rattle.std.specs.Prelude.{ℕ, Bool, false, ◌==◌, if◌then◌else◌, List, Option, Some, None}
 use Rattle.cv_meaning.specs.Tapes.{Cell, New_at, Find_at, Key_at, Made_at, Picked_at, Tape}
-use Rattle.cv_meaning_contexts.specs.Inlined.{Drawn}
-use Rattle.cv_meaning_contexts.specs.Roles.{Role, TheKeyName, Variable}
+use Rattle.cv_meaning.specs.contexts.Inlined.{Drawn}
+use Rattle.cv_meaning.specs.contexts.Roles.{Role, TheKeyName, Variable}
 use Rattle.cv_inline.specs.Draws.{same_find, same_role}
 use Rattle.cv_inline_laws.specs.runs.Texts.{Text}
 

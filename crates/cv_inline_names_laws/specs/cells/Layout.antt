@@ -6,10 +6,10 @@ use Rattle.cv_syntax_trees.specs.declared.head.Head.{Head}
 use Rattle.cv_syntax_trees.specs.declared.head.Head.TheVariants.{In, Out, Event, New, Let, If, Find, Branch, Leaf, Read, Apply, Eq, And, Or, Not, Yes, No, Cons, Binder, Name, Key, Call}
 use Rattle.cv_syntax_trees.specs.Tree.{Tree, Empty, Node, first_place, second, second_place}
 use Rattle.cv_meaning.specs.Side.{CallNumber, no_side}
-use Rattle.cv_meaning_contexts.specs.Groups.{Function}
-use Rattle.cv_meaning_contexts.specs.Bodies.{body_place, function_called}
-use Rattle.cv_meaning_contexts.specs.Roles.{Plain, Gone}
-use Rattle.cv_meaning_contexts.specs.Inlined.{Caller}
+use Rattle.cv_meaning.specs.contexts.Groups.{Function}
+use Rattle.cv_meaning.specs.contexts.Bodies.{body_place, function_called}
+use Rattle.cv_meaning.specs.contexts.Roles.{Plain, Gone}
+use Rattle.cv_meaning.specs.contexts.Inlined.{Caller}
 use Rattle.cv_inline.specs.NextGame.{Calling, callers_of}
 use Rattle.cv_inline_laws.specs.runs.Texts.{Text, oracles_in}
 use Rattle.cv_lists.specs.Options.{first_of}

@@ -4,10 +4,10 @@ use Rattle.std.specs.List.{AllByRecursion}
 use Rattle.cv_syntax_trees.specs.declared.head.Head.{Head}
 use Rattle.cv_syntax_trees.specs.declared.head.Head.TheVariants.{Binder, New}
 use Rattle.cv_syntax_trees.specs.Tree.{Tree, Empty, Node}
-use Rattle.cv_meaning_contexts.specs.Inlined.{Caller}
+use Rattle.cv_meaning.specs.contexts.Inlined.{Caller}
 use Rattle.cv_inline.specs.bodies.Inlining.{Inlining}
 use Rattle.cv_inline.specs.NextGame.{Calling, callers_of}
-use Rattle.cv_inline_draws_laws.specs.DrawnNames.{DrawnNames, has_find, has_indices, has_name}
+use Rattle.cv_inline_laws.specs.draws.DrawnNames.{DrawnNames, has_find, has_indices, has_name}
 use Rattle.cv_inline_names_laws.specs.accepted.RightBodies.{is_empty}
 
 -- nothing stands at a name that is bound

@@ -4,14 +4,14 @@ use Rattle.std.specs.Prelude.{◌≡◌, ℕ, Bool, true, false, ◌==◌, List,
 use Rattle.std.proofs.Common.{refl}
 use Rattle.cv_meaning.specs.Tapes.{Tape, blank}
 use Rattle.cv_meaning.specs.Interpretation.{Setting}
-use Rattle.cv_meaning_contexts.specs.Bodies.{function_called}
-use Rattle.cv_meaning_contexts.specs.Groups.{Function, Right, side_group}
-use Rattle.cv_meaning_contexts.specs.Sides.{Context, oracles_of}
-use Rattle.cv_meaning_contexts.specs.Sites.{sites_of}
-use Rattle.cv_meaning_contexts.specs.Roles.{Role, Gone, TheKeyName, Variable, Index}
+use Rattle.cv_meaning.specs.contexts.Bodies.{function_called}
+use Rattle.cv_meaning.specs.contexts.Groups.{Function, Right, side_group}
+use Rattle.cv_meaning.specs.contexts.Sides.{Context, oracles_of}
+use Rattle.cv_meaning.specs.contexts.Sites.{sites_of}
+use Rattle.cv_meaning.specs.contexts.Roles.{Role, Gone, TheKeyName, Variable, Index}
 use Rattle.cv_inline.specs.NextGame.{Calling, callings_of, inlined_calls_of, numbered}
-use Rattle.cv_inline_draws_laws.specs.DrawnNames.{AreApart, DrawnNames, drawn_in, find_in, has_find, has_indices, has_name, is_new, names_of_draws, role_in}
-use Rattle.cv_inline_draws_laws.proofs.Names.{index_among, name_again, name_new}
+use Rattle.cv_inline_laws.specs.draws.DrawnNames.{AreApart, DrawnNames, drawn_in, find_in, has_find, has_indices, has_name, is_new, names_of_draws, role_in}
+use Rattle.cv_inline_laws.proofs.draws.Names.{index_among, name_again, name_new}
 use Rattle.cv_inline_laws.specs.runs.Texts.{Text}
 use Rattle.cv_inline_names_laws.specs.cells.Cells.{on_tape}
 use Rattle.cv_inline_names_laws.specs.cells.Layout.{Types, type_in}

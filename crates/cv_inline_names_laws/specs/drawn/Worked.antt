@@ -1,6 +1,6 @@
 -- A worked context with its drawn names: one sender and one receiver, as in the next games.
 use Rattle.std.specs.Prelude.{ℕ, ◌==◌, ◌||◌, if◌then◌else◌, List, [], ◌∷◌}
-use Rattle.cv_meaning_contexts.specs.Roles.{Role, Plain, Replication, Gone}
+use Rattle.cv_meaning.specs.contexts.Roles.{Role, Plain, Replication, Gone}
 
 abbrev pub drawn_numbers : List ℕ
 drawn_numbers = 71 ∷ 72 ∷ 73 ∷ 74 ∷ 75 ∷ []

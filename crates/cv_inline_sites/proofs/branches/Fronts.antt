@@ -1,7 +1,7 @@
 -- What stands before the body of a branch.
 use Rattle.std.proofs.Common.{◌≡◌, ℕ, Bool, List, [], ◌∷◌, map, refl, ap, ◌∙◌}
 use Rattle.cv_syntax_trees.specs.Tree.{Tree, Empty, binders}
-use Rattle.cv_meaning_contexts.specs.Inlined.{Caller, Drawn, Scope, all_equal, branch_indices, cells_in_game, cells_then, each_once, in_game, index_moves, index_terms, is_index_of, moved, needed}
+use Rattle.cv_meaning.specs.contexts.Inlined.{Caller, Drawn, Scope, all_equal, branch_indices, cells_in_game, cells_then, each_once, in_game, index_moves, index_terms, is_index_of, moved, needed}
 use Rattle.cv_inline.specs.terms.Stacks.{names_from}
 use Rattle.cv_inline_sites.specs.branches.Moves.{binders_by, front, moves_by}
 use Rattle.cv_inline_sites.proofs.branches.Keys.{binders_same, moves_same}

@@ -3,7 +3,7 @@ use Rattle.std.proofs.Common.{◌≡◌, ℕ, suc, List, [], ◌∷◌, refl, ap
 use Rattle.cv_syntax_trees.specs.declared.head.Head.{Head}
 use Rattle.cv_syntax_trees.specs.declared.head.Head.TheVariants.{And, Cons, Eq}
 use Rattle.cv_syntax_trees.specs.Tree.{Tree, Empty, Node}
-use Rattle.cv_meaning_contexts.specs.Inlined.{all_equal, branch_indices, index_moves, moved, read_at}
+use Rattle.cv_meaning.specs.contexts.Inlined.{all_equal, branch_indices, index_moves, moved, read_at}
 use Rattle.cv_inline.specs.terms.Stacks.{names_from}
 use Rattle.cv_inline_sites.specs.branches.Moves.{IsList, binders_by, moves_by}
 

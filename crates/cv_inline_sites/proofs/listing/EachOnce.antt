@@ -8,8 +8,8 @@ use Rattle.std.proofs.lemmas.Bool.Decides.{eqb_tells}
 use Rattle.std.proofs.lemmas.List.{append_assoc, append-nil, map-append, take_more}
 use Rattle.std.proofs.lemmas.List.Elements.{filter-append}
 use Rattle.std.proofs.lemmas.List.Folds.{list_any-append}
-use Rattle.cv_meaning_contexts.specs.Roles as roles
-use Rattle.cv_meaning_contexts.specs.Roles.{Plain, Replication, Gone, TheKeyName}
+use Rattle.cv_meaning.specs.contexts.Roles as roles
+use Rattle.cv_meaning.specs.contexts.Roles.{Plain, Replication, Gone, TheKeyName}
 use Rattle.cv_inline.specs.Draws as draws
 use Rattle.cv_inline.specs.Draws.{each_role_once, same_role}
 use Rattle.cv_inline_sites.specs.declared.listing.draws.Draw.{Draw}

@@ -6,7 +6,7 @@ use Rattle.cv_pool.specs.KindTree.{KindTree}
 use Rattle.cv_syntax_trees.specs.declared.head.Head.TheVariants.{Cons, Branch, Binder}
 use Rattle.cv_syntax_trees.specs.Tree.{Tree, Empty, Node, size}
 use Rattle.cv_syntax.specs.PoolTrees.{tree_at}
-use Rattle.cv_meaning_contexts.specs.Inlined.{Caller}
+use Rattle.cv_meaning.specs.contexts.Inlined.{Caller}
 use Rattle.cv_inline.specs.Draws.{Draw, branch_draws, index_draws}
 use Rattle.cv_inline_sites.specs.listing.BranchForms.{calls_in, calls_of}
 use Rattle.cv_inline_sites.specs.declared.listing.branches.Calls.{Calls}

@@ -7,7 +7,7 @@ use Rattle.cv_pool.specs.KindTree.{KindTree}
 use Rattle.cv_pool.specs.declared.node.NodeId.{NodeId}
 use Rattle.cv_syntax_trees.specs.Tree.{Tree}
 use Rattle.cv_syntax.specs.PoolTrees.{tree_at}
-use Rattle.cv_meaning_contexts.specs.Inlined.{Drawn, in_game, index_terms}
+use Rattle.cv_meaning.specs.contexts.Inlined.{Drawn, in_game, index_terms}
 use Rattle.cv_inline.specs.NextGame as game
 use Rattle.cv_inline.specs.NextGame.{numbered}
 use Rattle.cv_inline.specs.declared.terms.calling.Calling.{Calling}

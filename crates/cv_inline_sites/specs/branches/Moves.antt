@@ -3,7 +3,7 @@ use Rattle.std.specs.Prelude.{ℕ, List, [], ◌∷◌, map}
 use Rattle.cv_syntax_trees.specs.declared.head.Head.TheVariants.{Cons, Branch}
 use Rattle.cv_syntax.specs.Postorder.{joined}
 use Rattle.cv_syntax_trees.specs.Tree.{Tree, Empty, Node, binders}
-use Rattle.cv_meaning_contexts.specs.Inlined.{Caller, Drawn, Scope, all_equal, branch_indices, cells_in_game, cells_then, each_once, in_game, index_moves, index_terms, is_index_of, moved, needed, read_at}
+use Rattle.cv_meaning.specs.contexts.Inlined.{Caller, Drawn, Scope, all_equal, branch_indices, cells_in_game, cells_then, each_once, in_game, index_moves, index_terms, is_index_of, moved, needed, read_at}
 
 -- what the other site's indices stand for, where these are the indices of the branch
 abbrev pub moves_by : (here : Tree) → List (ℕ × ℕ) → (indices : List ℕ) → List (ℕ × Tree)

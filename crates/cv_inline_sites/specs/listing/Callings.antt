@@ -3,8 +3,8 @@ use Rattle.std.specs.Prelude.{◌<◌, ◌^◌, List, Some, length, map}
 use Rattle.cv_pool.specs.KindTree.{KindTree}
 use Rattle.cv_syntax_trees.specs.Tree.{size}
 use Rattle.cv_syntax.specs.PoolTrees.{tree_at}
-use Rattle.cv_meaning_contexts.specs.Groups.{function_of}
-use Rattle.cv_meaning_contexts.specs.Inlined.{Caller}
+use Rattle.cv_meaning.specs.contexts.Groups.{function_of}
+use Rattle.cv_meaning.specs.contexts.Inlined.{Caller}
 use Rattle.cv_inline.specs.NextGame as game
 use Rattle.cv_inline.specs.NextGame.{callers_of}
 use Rattle.cv_inline.specs.terms.Callers.{caller_in}

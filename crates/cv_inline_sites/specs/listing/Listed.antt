@@ -1,6 +1,6 @@
 -- Draws of the code as those of the definitions. This profile's own.
 use Rattle.std.specs.Prelude.{ℕ}
-use Rattle.cv_meaning_contexts.specs.Roles as roles
+use Rattle.cv_meaning.specs.contexts.Roles as roles
 use Rattle.cv_inline.specs.Draws as draws
 use Rattle.cv_inline_sites.specs.declared.listing.draws.Draw.{Draw}
 use Rattle.cv_inline_sites.specs.declared.listing.draws.Role.{Role}

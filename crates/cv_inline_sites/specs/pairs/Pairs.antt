@@ -8,8 +8,8 @@ use Rattle.cv_syntax_trees.specs.declared.head.Head.TheVariants.{Binder, Branch,
 use Rattle.cv_syntax_trees.specs.Tree.{Tree, Node, second_place, size}
 use Rattle.cv_syntax.specs.PoolTrees.{tree_at}
 use Rattle.cv_syntax.specs.Walks.{above}
-use Rattle.cv_meaning_contexts.specs.Bodies.{body_place}
-use Rattle.cv_meaning_contexts.specs.Inlined.{Caller, Drawn, Scope, branch_for, index_terms, with_call_of}
+use Rattle.cv_meaning.specs.contexts.Bodies.{body_place}
+use Rattle.cv_meaning.specs.contexts.Inlined.{Caller, Drawn, Scope, branch_for, index_terms, with_call_of}
 use Rattle.cv_inline_sites.specs.declared.pairs.branches.Branch as branches
 use Rattle.cv_inline_sites.specs.declared.pairs.pairs.Pair as code
 

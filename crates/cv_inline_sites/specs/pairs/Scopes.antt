@@ -1,6 +1,6 @@
 -- What the names of a right body stand for at the indices of a caller. This profile's own.
 use Rattle.std.specs.Prelude.{List}
-use Rattle.cv_meaning_contexts.specs.Inlined.{Scope, index_terms}
+use Rattle.cv_meaning.specs.contexts.Inlined.{Scope, index_terms}
 use Rattle.cv_inline.specs.declared.terms.caller.Caller.{Caller}
 use Rattle.cv_inline.specs.declared.terms.scope.Entry.{Entry}
 use Rattle.cv_inline.specs.terms.Scopes.{scope_in}

@@ -6,7 +6,7 @@ use Rattle.cv_pool.specs.Nodes.{ChildBelow}
 use Rattle.cv_syntax_trees.specs.declared.head.Head.TheVariants.{No}
 use Rattle.cv_syntax_trees.specs.Tree.{Tree, lone}
 use Rattle.cv_syntax.specs.PoolTrees.{tree_at}
-use Rattle.cv_meaning_contexts.specs.Inlined.{Drawn, in_game, index_terms}
+use Rattle.cv_meaning.specs.contexts.Inlined.{Drawn, in_game, index_terms}
 use Rattle.cv_inline.specs.NextGame.{Results}
 use Rattle.cv_inline.specs.declared.terms.calling.Calling.{Calling}
 use Rattle.cv_inline.specs.declared.terms.scope.Entry.{Entry}

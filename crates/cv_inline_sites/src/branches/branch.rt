@@ -2,7 +2,7 @@ ghost use Rattle.std.specs.Prelude.{◌≡◌, ◌∷◌, ℕ, IfOk, length};
 ghost use Rattle.cv_pool.specs.Nodes.{ChildBelow};
 ghost use Rattle.cv_syntax_trees.specs.Tree as tree;
 ghost use Rattle.cv_syntax.specs.PoolTrees.{tree_at};
-ghost use Rattle.cv_meaning_contexts.specs.Inlined.{index_terms};
+ghost use Rattle.cv_meaning.specs.contexts.Inlined.{index_terms};
 ghost use Rattle.cv_inline.specs.terms.Callers.{IsLiveCaller, caller_in};
 ghost use Rattle.cv_inline.specs.terms.Drawings.{drawn_in};
 ghost use Rattle.cv_inline.specs.terms.Scopes.{scope_in};

@@ -1,7 +1,7 @@
 ghost use Rattle.std.specs.Prelude.{◌≡◌, ◌∷◌, IfOk, length};
 ghost use Rattle.cv_pool.specs.Nodes.{ChildBelow};
 ghost use Rattle.cv_syntax.specs.PoolTrees.{tree_at};
-ghost use Rattle.cv_meaning_contexts.specs.Inlined.{cell_in_game, cells_in_game, index_terms};
+ghost use Rattle.cv_meaning.specs.contexts.Inlined.{cell_in_game, cells_in_game, index_terms};
 ghost use Rattle.cv_inline.specs.terms.Callers.{IsLiveCaller, caller_in};
 ghost use Rattle.cv_inline.specs.terms.Drawings.{drawn_in};
 ghost use Rattle.cv_inline.specs.terms.Scopes.{scope_in};
@@ -37,7 +37,7 @@ fn cell(
 }
 
 /// Adds the cells of a right body's list.
-#[tactic(auto, using(cv_syntax::proofs::Trees::empty_at), unfolding(cv_meaning_contexts::specs::Inlined::cells_in_game))]
+#[tactic(auto, using(cv_syntax::proofs::Trees::empty_at), unfolding(cv_meaning::specs::contexts::Inlined::cells_in_game))]
 pub(crate) fn cells(
     pool: &Pool,
     drawn: &Drawing,

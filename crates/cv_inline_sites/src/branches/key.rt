@@ -1,8 +1,8 @@
 ghost use Rattle.std.specs.Prelude.{◌≡◌, ◌∷◌, IfOk, length};
 ghost use Rattle.cv_pool.specs.Nodes.{ChildBelow};
 ghost use Rattle.cv_syntax.specs.PoolTrees.{tree_at};
-ghost use Rattle.cv_meaning_contexts.specs.Inlined as bodies;
-ghost use Rattle.cv_meaning_contexts.specs.Inlined.{all_equal, index_terms};
+ghost use Rattle.cv_meaning.specs.contexts.Inlined as bodies;
+ghost use Rattle.cv_meaning.specs.contexts.Inlined.{all_equal, index_terms};
 ghost use Rattle.cv_inline.specs.terms.Callers.{IsLiveCaller, caller_in};
 ghost use Rattle.cv_inline.specs.terms.Drawings.{drawn_in};
 ghost use Rattle.cv_inline.specs.terms.Scopes.{scope_in};

@@ -1,8 +1,8 @@
 ghost use Rattle.std.specs.Prelude.{◌≡◌, ◌∷◌, All, IfOk, length, map};
 ghost use Rattle.cv_pool.specs.Nodes.{ChildBelow};
 ghost use Rattle.cv_syntax.specs.PoolTrees.{tree_at};
-ghost use Rattle.cv_meaning_contexts.specs.Inlined as bodies;
-ghost use Rattle.cv_meaning_contexts.specs.Inlined.{cells_in_game, cells_then, index_terms};
+ghost use Rattle.cv_meaning.specs.contexts.Inlined as bodies;
+ghost use Rattle.cv_meaning.specs.contexts.Inlined.{cells_in_game, cells_then, index_terms};
 ghost use Rattle.cv_inline.specs.terms.Callers.{IsLiveCaller, caller_in};
 ghost use Rattle.cv_inline.specs.terms.Drawings.{drawn_in};
 ghost use Rattle.cv_inline.specs.terms.Scopes.{scope_in};
@@ -42,7 +42,7 @@ fn moved_leaf(
 }
 
 /// Adds a term of another site's key, with the indices of a branch in place of the site's.
-#[tactic(auto, using(cv_syntax::proofs::Trees::empty_at), unfolding(cv_meaning_contexts::specs::Inlined::moved))]
+#[tactic(auto, using(cv_syntax::proofs::Trees::empty_at), unfolding(cv_meaning::specs::contexts::Inlined::moved))]
 pub(crate) fn moved(
     pool: &Pool,
     parts: &mut Vec<Make>,
@@ -71,7 +71,7 @@ pub(crate) fn moved(
 }
 
 /// Adds a cell that another site's key reads, in the same way.
-#[tactic(auto, unfolding(cv_meaning_contexts::specs::Inlined::moved))]
+#[tactic(auto, unfolding(cv_meaning::specs::contexts::Inlined::moved))]
 fn moved_cell(
     pool: &Pool,
     parts: &mut Vec<Make>,

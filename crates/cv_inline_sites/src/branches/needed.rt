@@ -2,8 +2,8 @@ ghost use Rattle.std.specs.Prelude.{◌≡◌, ◌∷◌, ◌++◌, All, IfOk, f
 ghost use Rattle.cv_pool.specs.Nodes.{ChildBelow};
 ghost use Rattle.cv_syntax_trees.specs.Tree.{same_tree};
 ghost use Rattle.cv_syntax.specs.PoolTrees.{tree_at};
-ghost use Rattle.cv_meaning_contexts.specs.Inlined as bodies;
-ghost use Rattle.cv_meaning_contexts.specs.Inlined.{is_index_of};
+ghost use Rattle.cv_meaning.specs.contexts.Inlined as bodies;
+ghost use Rattle.cv_meaning.specs.contexts.Inlined.{is_index_of};
 ghost use Rattle.cv_inline_sites.specs.branches.Cells.{IsLiveCell, cell_tree};
 
 use cv_syntax::{Head, NodeId, Pool, read_node, same};
@@ -24,7 +24,7 @@ fn is_index(replications: &[(u32, u32)], x: u32) -> bool
 }
 
 /// Adds the cells that a term reads, inner ones first.
-#[tactic(auto, using(cv_syntax::proofs::Trees::empty_at), unfolding(cv_meaning_contexts::specs::Inlined::needed))]
+#[tactic(auto, using(cv_syntax::proofs::Trees::empty_at), unfolding(cv_meaning::specs::contexts::Inlined::needed))]
 fn add_needed(
     pool: &Pool,
     replications: &[(u32, u32)],

@@ -3,7 +3,7 @@ ghost use Rattle.cv_pool.specs.Nodes.{ChildBelow};
 ghost use Rattle.cv_syntax.specs.PoolTrees.{tree_at};
 ghost use Rattle.cv_meaning.specs.Correspondences.{typed_names};
 ghost use Rattle.cv_inline.specs.Draws.{argument_draws};
-ghost use Rattle.cv_meaning_contexts.specs.Roles as roles;
+ghost use Rattle.cv_meaning.specs.contexts.Roles as roles;
 ghost use Rattle.cv_inline_sites.specs.listing.Listed.{draw_in, variable_draw};
 
 use cv_inline::terms::Index;

@@ -1,7 +1,7 @@
 ghost use Rattle.std.specs.Prelude.{◌≡◌, ◌∷◌, ◌<◌, ◌^◌, List, IfOk, length};
 ghost use Rattle.cv_pool.specs.KindTree.{KindTree};
 ghost use Rattle.cv_syntax_trees.specs.Tree.{Tree};
-ghost use Rattle.cv_meaning_contexts.specs.Inlined.{index_terms, with_call_of};
+ghost use Rattle.cv_meaning.specs.contexts.Inlined.{index_terms, with_call_of};
 ghost use Rattle.cv_inline.specs.terms.Callers.{caller_in};
 ghost use Rattle.cv_inline.specs.terms.Drawings.{drawn_in};
 ghost use Rattle.cv_inline.specs.terms.Scopes.{scope_in, standing_in};

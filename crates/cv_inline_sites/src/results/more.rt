@@ -1,7 +1,7 @@
 ghost use Rattle.std.specs.Prelude.{◌≡◌, ◌∷◌, ℕ, List, All, IfOk, slice_get};
 ghost use Rattle.cv_pool.specs.KindTree.{KindTree};
 ghost use Rattle.cv_pool.specs.Nodes.{ChildBelow};
-ghost use Rattle.cv_meaning_contexts.specs.Inlined.{Drawn};
+ghost use Rattle.cv_meaning.specs.contexts.Inlined.{Drawn};
 ghost use Rattle.cv_inline.specs.declared.terms.calling.Calling.{Calling};
 ghost use Rattle.cv_inline_sites.specs.results.Outcomes.{IsLiveOutcome, results_in, term_of};
 

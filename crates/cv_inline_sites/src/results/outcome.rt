@@ -2,7 +2,7 @@ ghost use Rattle.std.specs.Prelude.{◌≡◌, ◌∷◌, ℕ, List, All, IfOk, 
 ghost use Rattle.cv_pool.specs.KindTree.{KindTree};
 ghost use Rattle.cv_pool.specs.Nodes.{ChildBelow};
 ghost use Rattle.cv_syntax_trees.specs.Tree.{Tree};
-ghost use Rattle.cv_meaning_contexts.specs.Inlined.{Drawn};
+ghost use Rattle.cv_meaning.specs.contexts.Inlined.{Drawn};
 ghost use Rattle.cv_inline.specs.NextGame.{result_for};
 ghost use Rattle.cv_inline.specs.declared.terms.calling.Calling.{Calling};
 ghost use Rattle.cv_inline.specs.terms.Callers.{HasLiveCaller};

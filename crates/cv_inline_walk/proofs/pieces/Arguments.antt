@@ -3,7 +3,7 @@ use Rattle.std.proofs.Common.{◌≡◌, List, ◌∷◌, Some, None, refl, ap}
 use Rattle.cv_syntax_trees.specs.declared.head.Head.TheVariants.{Binder, Let}
 use Rattle.cv_syntax_trees.specs.Tree.{Tree, Empty, Node}
 use Rattle.cv_meaning.specs.Correspondences.{typed_names}
-use Rattle.cv_meaning_contexts.specs.Inlined.{Caller, Drawn, Own, Scope, inlined_body, inlined_call}
+use Rattle.cv_meaning.specs.contexts.Inlined.{Caller, Drawn, Own, Scope, inlined_body, inlined_call}
 use Rattle.cv_inline_sites.specs.Calls.{Argument, first_argument}
 
 module _ (d : Drawn) (ss : List Caller) (c : Caller) (Σ : Scope) (body : Tree) (k : Tree → Tree) where

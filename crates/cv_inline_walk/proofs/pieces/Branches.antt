@@ -4,8 +4,8 @@ use Rattle.std.proofs.lemmas.List.{map-append}
 use Rattle.cv_syntax_trees.specs.declared.head.Head.TheVariants as head
 use Rattle.cv_syntax.specs.Postorder.{joined}
 use Rattle.cv_syntax_trees.specs.Tree.{Tree, Empty, Node, second_place}
-use Rattle.cv_meaning_contexts.specs.Bodies.{body_place}
-use Rattle.cv_meaning_contexts.specs.Inlined.{Caller, Drawn, Scope, branch_for, cells_then, expanded, expanded_at, index_terms, inlined_body, inlined_branch, with_call_of}
+use Rattle.cv_meaning.specs.contexts.Bodies.{body_place}
+use Rattle.cv_meaning.specs.contexts.Inlined.{Caller, Drawn, Scope, branch_for, cells_then, expanded, expanded_at, index_terms, inlined_body, inlined_branch, with_call_of}
 use Rattle.cv_inline_sites.specs.pairs.Pairs.{Pair, branch_of_pair, pairs_with}
 use Rattle.cv_inline_walk.specs.pieces.Choices.{branch_by, choices_over, onto}
 use Rattle.cv_inline_walk.specs.pieces.Pieces.{listed}

@@ -5,7 +5,7 @@ use Rattle.cv_syntax_trees.specs.declared.head.Head.{Head}
 use Rattle.cv_syntax_trees.specs.declared.head.Head.TheVariants.{New, Let, If, Find, Cons}
 use Rattle.cv_syntax_trees.specs.Tree.{Tree, Empty, Node, first_place, second_place}
 use Rattle.cv_syntax.specs.PoolTrees.{tree_at}
-use Rattle.cv_meaning_contexts.specs.Inlined.{Caller, Drawn, Own, Scope, expanded, find_or_else, in_game, inlined_body, inlined_branch}
+use Rattle.cv_meaning.specs.contexts.Inlined.{Caller, Drawn, Own, Scope, expanded, find_or_else, in_game, inlined_body, inlined_branch}
 use Rattle.cv_inline_sites.specs.listing.Subtrees.{IsNodeAt}
 use Rattle.cv_inline_sites.specs.declared.listing.subtree.Subtree.{Subtree}
 use Rattle.cv_inline_sites.specs.declared.listing.subtree.Parent.{Parent}

@@ -7,7 +7,7 @@ use Rattle.cv_syntax.specs.Postorder.{joined}
 use Rattle.cv_syntax_trees.specs.Tree.{Tree, Empty, Node, first, second, size}
 use Rattle.cv_syntax.specs.PoolTrees.{tree_at}
 use Rattle.cv_meaning.specs.Correspondences.{typed_names}
-use Rattle.cv_meaning_contexts.specs.Inlined.{Drawn, Own, Scope, inlined_body, inlined_call}
+use Rattle.cv_meaning.specs.contexts.Inlined.{Drawn, Own, Scope, inlined_body, inlined_call}
 use Rattle.cv_inline.specs.declared.terms.caller.Caller.{Caller}
 use Rattle.cv_inline.specs.declared.terms.calling.Calling.{Calling}
 use Rattle.cv_inline.specs.terms.Callers.{caller_in}

@@ -6,7 +6,7 @@ use Rattle.std.proofs.lemmas.Option.{slice_get-get_or}
 use Rattle.cv_pool.specs.KindTree.{KindTree}
 use Rattle.cv_pool.specs.declared.node.NodeId.{NodeId}
 use Rattle.cv_syntax_trees.specs.Tree.{Tree}
-use Rattle.cv_meaning_contexts.specs.Inlined.{Caller}
+use Rattle.cv_meaning.specs.contexts.Inlined.{Caller}
 use Rattle.cv_inline.specs.NextGame as game
 use Rattle.cv_inline.specs.declared.terms.calling.Calling.{Calling}
 use Rattle.cv_inline_sites.specs.listing.Callings.{callers_in, calling_in}

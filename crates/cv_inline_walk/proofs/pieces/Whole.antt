@@ -8,8 +8,8 @@ use Rattle.cv_syntax_trees.specs.declared.head.Head.TheVariants as head
 use Rattle.cv_syntax.specs.Postorder.{joined}
 use Rattle.cv_syntax_trees.specs.Tree.{Tree, Empty, Node}
 use Rattle.cv_syntax.specs.PoolTrees.{tree_at}
-use Rattle.cv_meaning_contexts.specs.Inlined as bodies
-use Rattle.cv_meaning_contexts.specs.Inlined.{Drawn, Own, Scope, cells_then, find_or_else, in_game, index_terms, inlined_body, with_call_of}
+use Rattle.cv_meaning.specs.contexts.Inlined as bodies
+use Rattle.cv_meaning.specs.contexts.Inlined.{Drawn, Own, Scope, cells_then, find_or_else, in_game, index_terms, inlined_body, with_call_of}
 use Rattle.cv_inline.specs.declared.terms.caller.Caller.{Caller}
 use Rattle.cv_inline.specs.declared.terms.calling.Calling.{Calling}
 use Rattle.cv_inline.specs.declared.terms.scope.Entry.{Entry}

@@ -3,8 +3,8 @@ use Rattle.std.specs.Prelude.{ℕ, List}
 use Rattle.cv_pool.specs.KindTree.{KindTree}
 use Rattle.cv_syntax_trees.specs.Tree.{Tree}
 use Rattle.cv_syntax.specs.PoolTrees.{tree_at}
-use Rattle.cv_meaning_contexts.specs.Groups.{Group}
-use Rattle.cv_meaning_contexts.specs.Inlined.{Drawn, Scope, expanded, find_or_else, inlined_body, inlined_branch}
+use Rattle.cv_meaning.specs.contexts.Groups.{Group}
+use Rattle.cv_meaning.specs.contexts.Inlined.{Drawn, Scope, expanded, find_or_else, inlined_body, inlined_branch}
 use Rattle.cv_inline.specs.NextGame.{InlinedCalls}
 use Rattle.cv_inline.specs.declared.terms.caller.Caller.{Caller}
 use Rattle.cv_inline.specs.declared.terms.calling.Calling.{Calling}

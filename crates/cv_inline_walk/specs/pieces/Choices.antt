@@ -3,7 +3,7 @@ use Rattle.std.specs.Prelude.{ℕ, ◌<◌, List, [], ◌∷◌, ◌++◌, lengt
 use Rattle.cv_pool.specs.KindTree.{KindTree}
 use Rattle.cv_pool.specs.declared.node.NodeId.{NodeId}
 use Rattle.cv_syntax_trees.specs.Tree.{Tree, Empty}
-use Rattle.cv_meaning_contexts.specs.Inlined.{Caller, Drawn, Scope}
+use Rattle.cv_meaning.specs.contexts.Inlined.{Caller, Drawn, Scope}
 use Rattle.cv_inline.specs.declared.terms.calling.Calling.{Calling}
 use Rattle.cv_inline.specs.terms.Callers.{caller_in}
 use Rattle.cv_inline_sites.specs.declared.pairs.pairs.Pair as code

@@ -7,7 +7,7 @@ use Rattle.cv_syntax_trees.specs.declared.head.Head.TheVariants.{Cons, If}
 use Rattle.cv_syntax.specs.Postorder.{joined}
 use Rattle.cv_syntax_trees.specs.Tree.{Tree, Empty}
 use Rattle.cv_syntax.specs.PoolTrees.{tree_at}
-use Rattle.cv_meaning_contexts.specs.Inlined.{Drawn, in_game}
+use Rattle.cv_meaning.specs.contexts.Inlined.{Drawn, in_game}
 use Rattle.cv_inline.specs.declared.terms.caller.Caller.{Caller}
 use Rattle.cv_inline.specs.declared.terms.calling.Calling.{Calling}
 use Rattle.cv_inline.specs.declared.terms.scope.Entry.{Entry}

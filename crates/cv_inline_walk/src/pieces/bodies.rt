@@ -1,7 +1,7 @@
 ghost use Rattle.std.specs.Prelude.{◌≡◌, ◌∷◌, All, IfOk, length, map};
 ghost use Rattle.cv_syntax_trees.specs.declared.head.Head.TheVariants as head;
 ghost use Rattle.cv_syntax.specs.Postorder.{joined};
-ghost use Rattle.cv_meaning_contexts.specs.Inlined.{Own};
+ghost use Rattle.cv_meaning.specs.contexts.Inlined.{Own};
 ghost use Rattle.cv_inline.specs.terms.Drawings.{drawn_in};
 ghost use Rattle.cv_inline_sites.specs.listing.Callings.{IsLiveCalling};
 ghost use Rattle.cv_inline_sites.specs.listing.Subtrees.{IsNodeAt, IsWithin};

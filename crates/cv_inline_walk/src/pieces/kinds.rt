@@ -4,7 +4,7 @@ ghost use Rattle.cv_pool.specs.Nodes.{ChildBelow};
 ghost use Rattle.cv_syntax.specs.Postorder.{joined};
 ghost use Rattle.cv_syntax_trees.specs.Tree.{Empty, Tree};
 ghost use Rattle.cv_syntax.specs.PoolTrees.{tree_at};
-ghost use Rattle.cv_meaning_contexts.specs.Inlined.{Drawn};
+ghost use Rattle.cv_meaning.specs.contexts.Inlined.{Drawn};
 ghost use Rattle.cv_inline.specs.declared.terms.calling.Calling.{Calling};
 ghost use Rattle.cv_inline.specs.declared.terms.caller.Caller.{Caller};
 ghost use Rattle.cv_inline.specs.terms.Callers.{caller_in};

@@ -4,7 +4,7 @@ use Rattle.std.specs.Prelude.{map, ◌&&◌}
 use Rattle.cv_syntax_trees.specs.Tree.{Tree}
 use Rattle.cv_syntax.proofs.Trees.{tree_of_NoTree}
 use Rattle.cv_meaning.specs.Correspondences.{typed_names}
-use Rattle.cv_meaning_contexts.specs.Groups.{Function}
+use Rattle.cv_meaning.specs.contexts.Groups.{Function}
 use Rattle.cv_scene.specs.Sights.{variable_of}
 use Rattle.cv_scene.specs.Instances.{Matching, are_of_types, guess, is_argument_of, is_coin_of, is_instance, is_read_of, term_for}
 use Rattle.cv_match_terms.specs.patterns.Searches.{given_by, is_whole}

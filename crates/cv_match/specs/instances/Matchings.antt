@@ -4,7 +4,7 @@ use Rattle.cv_pool.specs.PoolView.{PoolView}
 use Rattle.cv_syntax.specs.Classes.{DeclsView}
 use Rattle.cv_syntax_trees.specs.Tree.{Tree}
 use Rattle.cv_syntax.specs.PoolTrees.{tree_at}
-use Rattle.cv_meaning_contexts.specs.Groups.{Function, group_of}
+use Rattle.cv_meaning.specs.contexts.Groups.{Function, group_of}
 use Rattle.cv_scene.specs.Sights.{variable_of}
 use Rattle.cv_scene_view.specs.Kept.{scene_of}
 use Rattle.cv_scene.specs.Instances.{Matching, are_of_types, guess, is_argument_of, is_coin_of, is_read_of}

@@ -2,7 +2,7 @@ ghost use Rattle.std.specs.Prelude.{◌≡◌, ◌<◌, ◌≤◌, IfSome, Some,
 ghost use Rattle.cv_pool.specs.Nodes.{ChildBelow};
 ghost use Rattle.cv_syntax.specs.PoolTrees.{tree_at};
 ghost use Rattle.cv_syntax.specs.Walks.{above};
-ghost use Rattle.cv_meaning_contexts.specs.Groups.{functions_of};
+ghost use Rattle.cv_meaning.specs.contexts.Groups.{functions_of};
 ghost use Rattle.cv_scene.specs.Instances.{call_at as call_of, first_call};
 ghost use Rattle.cv_match_terms.specs.patterns.Searches.{IsReady};
 ghost use Rattle.cv_match_terms.specs.patterns.Sites.{found_call};

@@ -1,7 +1,7 @@
 ghost use Rattle.std.specs.Prelude.{◌≡◌, length};
 ghost use Rattle.cv_pool.specs.Nodes.{ChildBelow};
 ghost use Rattle.cv_syntax.specs.PoolTrees.{tree_at};
-ghost use Rattle.cv_meaning_contexts.specs.Groups.{function_of, group_of};
+ghost use Rattle.cv_meaning.specs.contexts.Groups.{function_of, group_of};
 ghost use Rattle.cv_scene.specs.Sights as sights;
 ghost use Rattle.cv_scene.specs.Instances as instances;
 ghost use Rattle.cv_scene.specs.Instances.{guess, is_read_of};

@@ -5,7 +5,7 @@ use Rattle.std.specs.List.{AllByRecursion}
 use Rattle.std.specs.Prelude.{nat_eq, slice_get}
 use Rattle.cv_syntax_trees.specs.Tree.{Tree, Empty, Node, first_place, second_place}
 use Rattle.cv_meaning.specs.Tapes.{Key_at, Made_at, New_at}
-use Rattle.cv_meaning_contexts.specs.Groups.{Group}
+use Rattle.cv_meaning.specs.contexts.Groups.{Group}
 use Rattle.cv_directory_sorts.specs.Sites.{first_of}
 use Rattle.cv_scope_rules.specs.Context.{first_position, replications_below, second_position}
 use Rattle.cv_scope_rules.specs.declared.position.Position.{Position}

@@ -7,7 +7,7 @@ use mathlib.Core.List.{reverse_aux}
 use Rattle.cv_syntax_trees.specs.declared.head.Head.TheVariants.{Leaf, Read}
 use Rattle.cv_syntax_trees.specs.Declarations.{Declaration}
 use Rattle.cv_syntax_trees.specs.Tree.{Tree, Empty, Node, chain}
-use Rattle.cv_meaning_contexts.specs.Groups.{Function, Group}
+use Rattle.cv_meaning.specs.contexts.Groups.{Function, Group}
 use Rattle.cv_scene.specs.Sights.{variable_of}
 use Rattle.cv_derive_rules.specs.Given.{term_for}
 use Rattle.cv_scene.specs.Instances.{Instance, Matching, are_of_types, is_argument_of, is_coin_of, is_read_of, names_of, terms_of}

@@ -11,11 +11,11 @@ use Rattle.cv_meaning.specs.Memory.{Indices, Store}
 use Rattle.cv_meaning.specs.Side.{Arrays, OracleCall}
 use Rattle.cv_meaning.specs.Tapes.{Tape}
 use Rattle.cv_meaning.specs.Terms.{value, values}
-use Rattle.cv_meaning_contexts.specs.Groups.{Function}
-use Rattle.cv_meaning_contexts.specs.Frames.{Frame, IsValue}
-use Rattle.cv_meaning_contexts.specs.BodyTerms.{body_value}
-use Rattle.cv_meaning_contexts.specs.Finds.{Oracles}
-use Rattle.cv_meaning_contexts.specs.Bodies.{begun, body_answer, function_answer, function_called, reply, with_arguments, with_coins}
+use Rattle.cv_meaning.specs.contexts.Groups.{Function}
+use Rattle.cv_meaning.specs.contexts.Frames.{Frame, IsValue}
+use Rattle.cv_meaning.specs.contexts.BodyTerms.{body_value}
+use Rattle.cv_meaning.specs.contexts.Finds.{Oracles}
+use Rattle.cv_meaning.specs.contexts.Bodies.{begun, body_answer, function_answer, function_called, reply, with_arguments, with_coins}
 use Rattle.cv_scope_rules.specs.Phrases.{Term, is_phrase}
 use Rattle.cv_scope_rules.specs.Phrases.{HasConstantsOf}
 use Rattle.cv_scene.specs.Instances.{Instance, filled, names_of, terms_of}

@@ -3,7 +3,7 @@
 use Rattle.std.specs.Prelude.{◌≡◌, ℕ, true, false, ◌==◌, List, length}
 use Rattle.std.specs.List.{AllByRecursion, IsDistinct, list_any}
 use Rattle.cv_syntax_trees.specs.Tree.{Tree}
-use Rattle.cv_meaning_contexts.specs.Groups.{Right, side_group}
+use Rattle.cv_meaning.specs.contexts.Groups.{Right, side_group}
 use Rattle.cv_scene.specs.Scenes.{is_new}
 use Rattle.cv_scene.specs.Reductions.{Reduction, context_of_game}
 use Rattle.cv_inline.specs.NextGame.{Calling, callings_of, next_of}

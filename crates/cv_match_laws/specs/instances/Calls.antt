@@ -2,7 +2,7 @@
 use Rattle.std.specs.Prelude.{◌≡◌, List, Some}
 use Rattle.cv_syntax_trees.specs.Declarations.{Declaration}
 use Rattle.cv_syntax_trees.specs.Tree.{Tree}
-use Rattle.cv_meaning_contexts.specs.Groups.{function_at}
+use Rattle.cv_meaning.specs.contexts.Groups.{function_at}
 use Rattle.cv_scene.specs.Instances.{Call, IsInstance, Matching}
 use Rattle.cv_scene.specs.LeftTerms.{IsLeftFunction}
 

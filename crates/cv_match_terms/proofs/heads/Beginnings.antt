@@ -8,7 +8,7 @@ use Rattle.cv_syntax_trees.specs.declared.head.Head.{Head}
 use Rattle.cv_syntax_trees.specs.Head.{code}
 use Rattle.cv_syntax_trees.specs.Tree.{Tree, Empty, Node}
 use Rattle.cv_syntax.proofs.Trees.{tree_of_NoTree}
-use Rattle.cv_meaning_contexts.specs.Groups.{function_of, functions_of}
+use Rattle.cv_meaning.specs.contexts.Groups.{function_of, functions_of}
 use Rattle.cv_match_terms.specs.declared.heads.heads.Heads.{Heads}
 use Rattle.cv_match_terms.specs.heads.Beginnings.{begins, has_code, is_code, code_of, may_begin, same_code}
 use Rattle.cv_lists.proofs.Tests.{or_false, or_assoc}

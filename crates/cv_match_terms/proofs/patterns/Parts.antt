@@ -9,7 +9,7 @@ use Rattle.cv_syntax_trees.specs.declared.head.Head.TheVariants.{Binder, Leaf}
 use Rattle.cv_syntax_trees.specs.Head.{same_head}
 use Rattle.cv_syntax_trees.specs.Tree.{Tree, Empty, Node, chain, same_tree}
 use Rattle.cv_syntax.proofs.Trees.{tree_of_NoTree}
-use Rattle.cv_meaning_contexts.specs.Groups.{Function, Group}
+use Rattle.cv_meaning.specs.contexts.Groups.{Function, Group}
 use Rattle.cv_derive_rules.specs.Given as given
 use Rattle.cv_derive_rules.specs.Given.{or_node, with_given}
 use Rattle.cv_meaning.specs.Correspondences.{typed_names}

@@ -6,7 +6,7 @@ use Rattle.cv_syntax_trees.specs.declared.head.Head.{Head}
 use Rattle.cv_syntax_trees.specs.declared.head.Head.TheVariants.{Leaf}
 use Rattle.cv_syntax_trees.specs.Head.{code}
 use Rattle.cv_syntax_trees.specs.Tree.{Tree, Empty, Node}
-use Rattle.cv_meaning_contexts.specs.Groups.{Function}
+use Rattle.cv_meaning.specs.contexts.Groups.{Function}
 use Rattle.cv_match_terms.specs.declared.heads.heads.Heads.{Heads}
 
 abbrev pub same_code : Code → Code → Bool

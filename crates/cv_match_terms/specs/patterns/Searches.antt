@@ -10,10 +10,10 @@ use Rattle.cv_syntax_trees.specs.Tree.{Tree, same_tree, size}
 use Rattle.cv_syntax.specs.PoolTrees.{tree_at}
 use Rattle.cv_directory_sorts.specs.declared.sort.Sort.TheVariants.{OfType}
 use Rattle.cv_directory_sorts.specs.Sites.{sites_of}
-use Rattle.cv_typing_rules.specs.Parts.{game_part, nothing_above, signature_of}
-use Rattle.cv_typing_rules.specs.Signature.{OfGame, Signature, sort_of}
+use Rattle.cv_scope_rules.specs.typing.Parts.{game_part, nothing_above, signature_of}
+use Rattle.cv_scope_rules.specs.typing.Signature.{OfGame, Signature, sort_of}
 use Rattle.cv_typing.specs.Tables.{above_of, arrays_of}
-use Rattle.cv_meaning_contexts.specs.Groups.{Function, Group, group_of}
+use Rattle.cv_meaning.specs.contexts.Groups.{Function, Group, group_of}
 use Rattle.cv_derive_rules.specs.Given.{with_given}
 use Rattle.cv_scene.specs.Sights.{variable_of}
 use Rattle.cv_scene.specs.Instances.{filled, guess, is_variable_of, names_of, term_for, terms_of}

@@ -3,7 +3,7 @@ ghost use Rattle.cv_pool.specs.Nodes.{ChildBelow};
 ghost use Rattle.cv_syntax_trees.specs.Head.{same_head};
 ghost use Rattle.cv_syntax.specs.PoolTrees.{tree_at};
 ghost use Rattle.cv_syntax_trees.specs.declared.head.Head as heading;
-ghost use Rattle.cv_meaning_contexts.specs.Groups.{function_of, functions_of};
+ghost use Rattle.cv_meaning.specs.contexts.Groups.{function_of, functions_of};
 ghost use Rattle.cv_match_terms.specs.heads.Beginnings as heads;
 ghost use Rattle.cv_match_terms.specs.heads.Beginnings.{AreHeadsOf, begins, may_begin};
 

@@ -3,7 +3,7 @@ ghost use Rattle.cv_pool.specs.Nodes.{ChildBelow};
 ghost use Rattle.cv_syntax_trees.specs.Tree.{first, second};
 ghost use Rattle.cv_syntax.specs.PoolTrees.{tree_at};
 ghost use Rattle.cv_meaning.specs.Correspondences.{typed_names};
-ghost use Rattle.cv_meaning_contexts.specs.Groups.{function_of, group_of};
+ghost use Rattle.cv_meaning.specs.contexts.Groups.{function_of, group_of};
 ghost use Rattle.cv_scene.specs.Refusals.{is_among};
 ghost use Rattle.cv_match_terms.specs.patterns.Searches.{is_name};
 ghost use Rattle.cv_scene.specs.Sights as sights;

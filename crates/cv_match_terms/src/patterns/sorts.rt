@@ -2,7 +2,7 @@ ghost use Rattle.std.specs.Prelude.{◌≡◌, length, map};
 ghost use Rattle.cv_pool.specs.Nodes.{ChildBelow};
 ghost use Rattle.cv_syntax.specs.PoolTrees.{tree_at};
 ghost use Rattle.cv_meaning.specs.Correspondences.{typed_names};
-ghost use Rattle.cv_meaning_contexts.specs.Groups.{function_of};
+ghost use Rattle.cv_meaning.specs.contexts.Groups.{function_of};
 ghost use Rattle.cv_directory_sorts.specs.declared.sort.Sort.TheVariants.{OfType};
 ghost use Rattle.cv_scene.specs.Instances.{are_of_types, term_for};
 ghost use Rattle.cv_scene.specs.Terms as terms;

@@ -2,7 +2,7 @@ ghost use Rattle.std.specs.Prelude.{◌≡◌, All, IfOk, length, map};
 ghost use Rattle.cv_pool.specs.Nodes.{ChildBelow};
 ghost use Rattle.cv_syntax.specs.PoolTrees.{tree_at};
 ghost use Rattle.cv_meaning.specs.Correspondences.{typed_names};
-ghost use Rattle.cv_meaning_contexts.specs.Groups.{function_of, group_of};
+ghost use Rattle.cv_meaning.specs.contexts.Groups.{function_of, group_of};
 ghost use Rattle.cv_scene.specs.Instances.{guess, term_for};
 ghost use Rattle.cv_match_terms.specs.patterns.Sites.{IsInstanceIn};
 

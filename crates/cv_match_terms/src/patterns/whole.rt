@@ -2,7 +2,7 @@ ghost use Rattle.std.specs.Prelude.{◌≡◌, length};
 ghost use Rattle.cv_pool.specs.Nodes.{ChildBelow};
 ghost use Rattle.cv_syntax_trees.specs.Tree.{same_tree};
 ghost use Rattle.cv_syntax.specs.PoolTrees.{tree_at};
-ghost use Rattle.cv_meaning_contexts.specs.Groups.{function_of, group_of};
+ghost use Rattle.cv_meaning.specs.contexts.Groups.{function_of, group_of};
 ghost use Rattle.cv_match_terms.specs.patterns.Searches.{filled_part, is_whole};
 
 use crate::heads::is_head;

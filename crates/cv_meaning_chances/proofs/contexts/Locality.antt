@@ -12,13 +12,13 @@ use Rattle.cv_meaning.specs.Terms.{is_one}
 use Rattle.cv_meaning.specs.Cells.{without_repeats}
 use Rattle.cv_meaning_laws.proofs.Counts.{same_cell_exact}
 use Rattle.cv_meaning_laws.proofs.Listed.{Sized, Has, has_left, has_right, distinct_without_repeats, is_in_without_repeats, all_filtered}
-use Rattle.cv_meaning_contexts.specs.Groups.{Function}
-use Rattle.cv_meaning_contexts.specs.Frames.{IsValue, Frame, assigned, with_call}
-use Rattle.cv_meaning_contexts.specs.BodyTerms.{body_value}
-use Rattle.cv_meaning_contexts.specs.Finds.{Oracles, Pick, picks, picked}
-use Rattle.cv_meaning_contexts.specs.Bodies.{with_arguments, with_chosen, with_coins, after_pick, body_place, body_answer, branch_answer, function_called, function_answer, reply}
-use Rattle.cv_meaning_contexts.specs.OwnCells.{IsOfCall}
-use Rattle.cv_meaning_contexts.specs.Sides.{chosen_cell, cells_here, body_cells, function_cells, side_from}
+use Rattle.cv_meaning.specs.contexts.Groups.{Function}
+use Rattle.cv_meaning.specs.contexts.Frames.{IsValue, Frame, assigned, with_call}
+use Rattle.cv_meaning.specs.contexts.BodyTerms.{body_value}
+use Rattle.cv_meaning.specs.contexts.Finds.{Oracles, Pick, picks, picked}
+use Rattle.cv_meaning.specs.contexts.Bodies.{with_arguments, with_chosen, with_coins, after_pick, body_place, body_answer, branch_answer, function_called, function_answer, reply}
+use Rattle.cv_meaning.specs.contexts.OwnCells.{IsOfCall}
+use Rattle.cv_meaning.specs.contexts.Sides.{chosen_cell, cells_here, body_cells, function_cells, side_from}
 
 agree_in : (t s : Tape) (cs : List Sized) (c : Cell) → AllByRecursion (λ c. t c ≡ s c) (cells_of cs) → is_in cs c ≡ true → t c ≡ s c
 agree_in t s [] c h k = absurd (both_ways _ refl k)

@@ -9,11 +9,11 @@ use Rattle.cv_meaning.specs.Side.{CallNumber}
 use Rattle.cv_meaning.specs.Terms.{is_one}
 use Rattle.cv_meaning.specs.Candidates.{tuples_up_to}
 use Rattle.cv_meaning_laws.proofs.Lists.{each_flat_map}
-use Rattle.cv_meaning_contexts.specs.Sites.{Site, sites_at, most_bounds, greatest_bound}
-use Rattle.cv_meaning_contexts.specs.Frames.{Frame, IsCall, with_call, meaning_of}
-use Rattle.cv_meaning_contexts.specs.BodyTerms.{call_meant, call_at, array_at, body_value}
-use Rattle.cv_meaning_contexts.specs.Finds.{Oracles, Pick, has_bound, function_of_site, is_made, are_made, pick, picks_at, picks}
-use Rattle.cv_meaning_contexts.specs.Made.{WasMade, is_index, has_cell_at, have_own_cells}
+use Rattle.cv_meaning.specs.contexts.Sites.{Site, sites_at, most_bounds, greatest_bound}
+use Rattle.cv_meaning.specs.contexts.Frames.{Frame, IsCall, with_call, meaning_of}
+use Rattle.cv_meaning.specs.contexts.BodyTerms.{call_meant, call_at, array_at, body_value}
+use Rattle.cv_meaning.specs.contexts.Finds.{Oracles, Pick, has_bound, function_of_site, is_made, are_made, pick, picks_at, picks}
+use Rattle.cv_meaning.specs.contexts.Made.{WasMade, is_index, has_cell_at, have_own_cells}
 use Rattle.cv_lists.proofs.Each.{AllByRecursion_append}
 
 abbrev IsMade : Frame → Pick → Type 0

@@ -10,7 +10,7 @@ use Rattle.cv_parse_grammar.specs.declared.role.Role.{Role}
 use Rattle.cv_parse_grammar.specs.Identities.{AreDistinct, ids_of, is_among}
 use Rattle.cv_meaning.specs.Interpretation.{is_constant_of}
 use Rattle.cv_meaning_laws.proofs.Listed.{Has}
-use Rattle.cv_typing_rules.specs.Signature.{declaration_of, function_by}
+use Rattle.cv_scope_rules.specs.typing.Signature.{declaration_of, function_by}
 use Rattle.cv_typing_runs.specs.Games.{HasConstants}
 use Rattle.cv_parse_laws.proofs.roles.DeclaredKinds.{OfKind}
 use Rattle.cv_lists.proofs.Tests.{or_cases}

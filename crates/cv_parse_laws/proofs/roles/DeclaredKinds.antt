@@ -14,7 +14,7 @@ use Rattle.cv_parse_grammar.specs.declared.role.Role.TheVariants.{Declares}
 use Rattle.cv_parse_grammar.specs.Declarations.{channel_decl, collision_decl, const_decl, constant, declaration, equation_decl, equiv_decl, event_decl, fun_decl, ids, named, param_decl, proba_decl, query_decl, type_decl, type_list}
 use Rattle.cv_parse_grammar.specs.Phrases.{Sort}
 use Rattle.cv_parse_grammar.specs.Rules.{file}
-use Rattle.cv_typing_rules.specs.Signature.{names_in}
+use Rattle.cv_scope_rules.specs.typing.Signature.{names_in}
 use Rattle.cv_parse_grammar.proofs.yields.Yielding.{Gives, a_word, anything, before, behind, follow, one_of, several, turned}
 use Rattle.cv_parse_laws.proofs.roles.Forms.{bracketed, in_row, or_this}
 

@@ -13,7 +13,7 @@ use Rattle.cv_parse_grammar.specs.Whole.{IsRead, built_in}
 use Rattle.cv_parse_grammar.proofs.Identities.{declared_names, ids_are_distinct}
 use Rattle.cv_parse.specs.Parsed.{Parsed, bool_type, parsed}
 use Rattle.cv_parse.proofs.Exactness.{said_is_saying}
-use Rattle.cv_typing_rules.specs.Signature.{names_in}
+use Rattle.cv_scope_rules.specs.typing.Signature.{names_in}
 use Rattle.cv_typing_runs.specs.Games.{HasArguments, HasConstants, HasDeclaredSorts}
 use Rattle.cv_parse_grammar.specs.yields.Yields.{AllUsed}
 use Rattle.cv_parse_grammar.proofs.yields.Naming.{all_used}

@@ -9,13 +9,13 @@ use Rattle.cv_parse_grammar.specs.Whole.{IsRead}
 use Rattle.cv_parse.specs.Parsed.{Parsed, parsed}
 use Rattle.cv_parse.proofs.Exactness.{said_is_saying}
 use Rattle.cv_meaning.specs.Queries.{queries_in}
-use Rattle.cv_typing_rules.specs.Parts.{AreTyped, IsTypedFile, declaration_parts, game_part, local_names, query_part, IsTypedPart}
-use Rattle.cv_typing_rules.specs.Signature.{OfNothing, Signature}
-use Rattle.cv_typing_rules.specs.Typing.{IsTyped}
-use Rattle.cv_typing_rules.specs.Wants.{Atoms}
-use Rattle.cv_syntax_faults.specs.Walk.{IsObeyed}
+use Rattle.cv_scope_rules.specs.typing.Parts.{AreTyped, IsTypedFile, declaration_parts, game_part, local_names, query_part, IsTypedPart}
+use Rattle.cv_scope_rules.specs.typing.Signature.{OfNothing, Signature}
+use Rattle.cv_scope_rules.specs.typing.Typing.{IsTyped}
+use Rattle.cv_scope_rules.specs.typing.Wants.{Atoms}
+use Rattle.cv_syntax.specs.faults.Walk.{IsObeyed}
 use Rattle.cv_derive_laws.specs.stores.Truth.{is_name_of}
-use Rattle.cv_query_kinds.specs.Closed.{AreClosedAtoms, HasClosedQueries, IsClosedAtom, IsClosedQuery, IsKnown}
+use Rattle.cv_query.specs.kinds.Closed.{AreClosedAtoms, HasClosedQueries, IsClosedAtom, IsClosedQuery, IsKnown}
 use Rattle.cv_parse_sorts.proofs.queries.Typed.{D, IsUsed, named_locally, term_closed, terms_closed, typed_split, used_functions}
 use Rattle.cv_parse_sorts.proofs.queries.Names.{AreAtomsOver, IfNamed, IsAtomOver, IsNamedQuery, read_queries}
 

@@ -5,7 +5,7 @@ use Rattle.std.specs.Str.{bytes_eq}
 use Rattle.std.proofs.lemmas.Slice.Eq.{bytes_eq-Decides}
 use Rattle.std.proofs.lemmas.Bool.{false_from_ne_true}
 use Rattle.std.proofs.lemmas.List.{append-nil}
-use Rattle.cv_names.specs.Texts.{NoRepeat}
+use Rattle.cv_pool.specs.names.Texts.{NoRepeat}
 use Rattle.cv_parse_tables.specs.terminals.Signs.{place_of, with_name}
 
 -- two texts are the same, or the test tells them apart

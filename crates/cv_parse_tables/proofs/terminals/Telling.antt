@@ -14,7 +14,7 @@ use Rattle.cv_parse_notation.specs.declared.script.ScriptWord.TheVariants.{Plain
 use Rattle.cv_parse_notation.specs.declared.sign.Mark.{Mark}
 use Rattle.cv_parse_notation.specs.declared.sign.Sign.{Sign}
 use Rattle.cv_parse_notation.specs.declared.sign.Sign.TheVariants as sign
-use Rattle.cv_names.specs.Texts.{NoRepeat}
+use Rattle.cv_pool.specs.names.Texts.{NoRepeat}
 use Rattle.cv_parse_tables.specs.declared.terminals.pass.Counts.{Counts}
 use Rattle.cv_parse_tables.specs.spelling.Spelling.{mark_of_text}
 use Rattle.cv_parse_tables.specs.terminals.Signs.{Step, Signed, no_counts, join, step_before, unnamed_name, is_unnamed, first_text, token_step, text_step, word_step, signs_from, signs_in, signs_of, place_of, Tells, TellInOrder, NumberBelow}

@@ -3,7 +3,7 @@
 ghost use Rattle.std.specs.Prelude.{◌≡◌, ◌≢◌, ◌+◌, ◌<◌, ◌^◌, false, [], ◌∷◌, List, All, Some, length, take, drop, slice_get, codes, IfOk, OnErr};
 ghost use Rattle.cv_lex.specs.Lexis.{Token};
 ghost use Rattle.cv_lex.specs.View.{AreTokens};
-ghost use Rattle.cv_names.specs.Texts.{NoRepeat};
+ghost use Rattle.cv_pool.specs.names.Texts.{NoRepeat};
 ghost use Rattle.cv_parse_tables.specs.terminals.Braces.{file_tokens, opens, outside};
 ghost use Rattle.cv_parse_tables.specs.terminals.Signs.{place_of, with_name, step_before, token_step, text_step, unnamed_step, no_counts, signs_from, signs_in, signs_of, TellInOrder, NumberBelow};
 ghost use Rattle.cv_parse_tables.specs.spelling.Spelling.{mark_of_text};

@@ -1,6 +1,6 @@
 -- A small file whose game comes back, and one whose game has too deep a text. This profile's own.
 use Rattle.std.specs.Prelude.{ℕ, zero, suc, true, false, List, [], ◌∷◌, ◌++◌, None, codes}
-use Rattle.cv_names.specs.declared.names.NameId.{NameId}
+use Rattle.cv_pool.specs.declared.names.names.NameId.{NameId}
 use Rattle.cv_syntax_trees.specs.declared.class.Class.TheVariants.{Channel, Event, Param, TypeName}
 use Rattle.cv_syntax.specs.declared.decls.Decl.{Decl}
 use Rattle.cv_syntax.specs.declared.decls.Decl.TheVariants.{Name}

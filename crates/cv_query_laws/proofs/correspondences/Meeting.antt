@@ -22,7 +22,7 @@ use Rattle.cv_meaning_laws.specs.adequacy.Typed.{IsTypedStore}
 use Rattle.cv_meaning_laws.proofs.adequacy.Sorted.{typed_value}
 use Rattle.cv_directory_sorts.specs.declared.sort.Sort.{Sort}
 use Rattle.cv_directory_sorts.specs.declared.sort.Sort.TheVariants.{BelowParameter, OfType}
-use Rattle.cv_typing_rules.specs.Signature.{sort_of}
+use Rattle.cv_scope_rules.specs.typing.Signature.{sort_of}
 use Rattle.cv_directory_sorts.specs.Sorts.{same_sort}
 use Rattle.cv_typing_runs.specs.Games.{context_of, sort_of_meaning}
 use Rattle.cv_typing_runs.proofs.Models.{is_model}

@@ -11,7 +11,7 @@ use Rattle.cv_meaning.specs.Correspondences.{Atom, Correspondence, RightEvent, R
 use Rattle.cv_derive_laws.specs.stores.Truth.{AreOver, IsOver, is_name_of}
 use Rattle.cv_query_certificates.specs.Claims.{names_of}
 use Rattle.cv_query_laws.specs.correspondences.Premises.{is_correspondence}
-use Rattle.cv_query_kinds.specs.Closed.{AreClosedAtoms, IsClosedAtom, IsClosedQuery, IsKnown}
+use Rattle.cv_query.specs.kinds.Closed.{AreClosedAtoms, IsClosedAtom, IsClosedQuery, IsKnown}
 
 -- the same of the atoms of a correspondence, by its own variables
 

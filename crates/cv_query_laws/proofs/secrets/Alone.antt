@@ -8,7 +8,7 @@ use Rattle.cv_scope_rules.specs.Made.{is_bound, made_by}
 use Rattle.cv_scope_rules.specs.Phrases.{Phrase, Inputs, Body, Then, Else, Branches, Arm, Guards, Guarded, Pattern, Message, Indices, Binders, Cells, OneCell, Terms, Term, parts, both_are, is_phrase}
 use Rattle.cv_scope_rules.specs.Sites.{Variable}
 use Rattle.cv_query_certificates.specs.Secrets.{first_definition_but}
-use Rattle.cv_query_quiet.proofs.Shapes.{defined_parts, left_false}
+use Rattle.cv_costs.proofs.quiet.Shapes.{defined_parts, left_false}
 use Rattle.cv_lists.proofs.Tests.{differ_comm}
 
 -- no node has such a head

@@ -19,7 +19,7 @@ use Rattle.cv_scope_rules.specs.Phrases.{Inputs, is_phrase}
 use Rattle.cv_scene.specs.Scenes.{Scene}
 use Rattle.cv_query_certificates.specs.Secrets.{AreUnreadChoices}
 use Rattle.cv_query_laws.specs.secrets.Exchanged.{exchanged, exchanged_on}
-use Rattle.cv_query_quiet.proofs.Chosen.{quiet}
+use Rattle.cv_costs.proofs.quiet.Chosen.{quiet}
 use Rattle.cv_query_laws.proofs.secrets.Exchanged.{holds_exchanged}
 use Rattle.cv_query_laws.proofs.secrets.Sizes.{exchanged_apart, renamed_sizes}
 

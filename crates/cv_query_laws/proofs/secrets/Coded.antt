@@ -23,10 +23,10 @@ use Rattle.cv_typing_runs.specs.Games.{context_of}
 use Rattle.cv_scene.specs.Scenes.{Scene}
 use Rattle.cv_query_laws.proofs.secrets.Copies.{HaveOneSort, IsFrom, copying_kind, is_from, names}
 use Rattle.cv_query_laws.proofs.secrets.Places.{cell_at, found_again, place_in}
-use Rattle.cv_query_quiet.specs.Twins.{Link}
-use Rattle.cv_query_quiet.proofs.Served.{But, Copies, Draws, One}
-use Rattle.cv_query_quiet.specs.Twins.{index_names}
-use Rattle.cv_query_quiet.proofs.Shapes.{one_of}
+use Rattle.cv_costs.specs.quiet.Twins.{Link}
+use Rattle.cv_costs.proofs.quiet.Served.{But, Copies, Draws, One}
+use Rattle.cv_costs.specs.quiet.Twins.{index_names}
+use Rattle.cv_costs.proofs.quiet.Shapes.{one_of}
 use Rattle.cv_query_laws.proofs.secrets.Swaps.{Choice, exchange, exchange_told, one_size}
 use Rattle.cv_query_laws.proofs.secrets.Told.{first_told, told_at}
 

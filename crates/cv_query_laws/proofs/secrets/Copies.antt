@@ -18,8 +18,8 @@ use Rattle.cv_scope_rules.specs.Sites as site
 use Rattle.cv_scene.specs.Scenes.{Scene, has_some_new, is_new_head, is_queried}
 use Rattle.cv_scene.specs.Sights.{variable_of}
 use Rattle.cv_query_certificates.specs.Secrets.{AreUnreadCopies, first_definition_but, first_other_read, has_definition, is_choice_of, is_copy, is_let_of, is_none_of_them, is_source, put_source, sources}
-use Rattle.cv_query_quiet.specs.Quiet.{Kind, IsQuiet}
-use Rattle.cv_query_quiet.proofs.Shapes.{IsShaped, defined_parts, head_goes_on, indices_below, left_false, one_of, quiet_game, ReadsNone}
+use Rattle.cv_costs.specs.quiet.Quiet.{Kind, IsQuiet}
+use Rattle.cv_costs.proofs.quiet.Shapes.{IsShaped, defined_parts, head_goes_on, indices_below, left_false, one_of, quiet_game, ReadsNone}
 
 -- lists
 

@@ -30,9 +30,9 @@ use Rattle.cv_scope_rules.proofs.Plain.{phrase_plain}
 use Rattle.cv_scope_runs.specs.Reads.{VisitReadsAssigned}
 use Rattle.cv_scope_runs.proofs.FactsRuns.{all_reads_assigned}
 use Rattle.cv_scope_runs.proofs.Plain.{game_context, plain_no_calls}
-use Rattle.cv_typing_rules.specs.declared.form.Form.TheVariants.{InProcess}
-use Rattle.cv_typing_rules.specs.Parts.{nothing_above}
-use Rattle.cv_typing_rules.specs.Wants.{Run}
+use Rattle.cv_scope_rules.specs.declared.typing.form.Form.TheVariants.{InProcess}
+use Rattle.cv_scope_rules.specs.typing.Parts.{nothing_above}
+use Rattle.cv_scope_rules.specs.typing.Wants.{Run}
 use Rattle.cv_typing_runs.proofs.Games.{restrictions, typed}
 use Rattle.cv_typing_runs.proofs.SameSites.{phrase_open}
 use Rattle.cv_scene.specs.Scenes.{Scene}
@@ -44,10 +44,10 @@ use Rattle.cv_query_laws.proofs.secrets.Coded.{Coded, IsExpected, ReadsAssigned,
 use Rattle.cv_query_laws.proofs.secrets.Copies.{HaveOneSort, copying_kind, names, quiet_copies}
 use Rattle.cv_query_laws.proofs.secrets.CopySizes.{lets_typed, never_copies, odd_for_copies, same_sizes}
 use Rattle.cv_query_laws.proofs.secrets.Places.{agree_in, agree_of, place_in}
-use Rattle.cv_query_quiet.specs.Quiet.{IsQuiet}
-use Rattle.cv_query_quiet.specs.Twins.{Link}
-use Rattle.cv_query_quiet.proofs.Served.{But, Copies, One, guesses}
-use Rattle.cv_query_quiet.proofs.Shapes.{one_of}
+use Rattle.cv_costs.specs.quiet.Quiet.{IsQuiet}
+use Rattle.cv_costs.specs.quiet.Twins.{Link}
+use Rattle.cv_costs.proofs.quiet.Served.{But, Copies, One, guesses}
+use Rattle.cv_costs.proofs.quiet.Shapes.{one_of}
 use Rattle.cv_query_laws.proofs.secrets.Swaps.{Choice, exchange, exchange_agrees, exchange_off, exchange_twice, exchange_within, is_test, one_size}
 use Rattle.cv_query_laws.proofs.secrets.Told.{first_in_run, first_told, one_first, told_at}
 use Rattle.cv_meaning_runs.specs.Replacement.{Process}

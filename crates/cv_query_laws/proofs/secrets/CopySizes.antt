@@ -2,7 +2,7 @@
 use Rattle.std.proofs.Common.{◌≡◌, ℕ, ◌==◌, ◌&&◌, Bool, true, false, cond, not, List, [], ◌∷◌, flat_map, Option, Some, None, refl, sym, ap, ap₂, subst, ◌∙◌, eqb-true, eq-eqb}
 use Rattle.std.specs.Prelude.{option_map}
 use Rattle.std.proofs.lemmas.Bool.{both_ways, and_parts}
-use Rattle.cv_syntax_faults.specs.Walk.{IsObeyed}
+use Rattle.cv_syntax.specs.faults.Walk.{IsObeyed}
 use Rattle.cv_syntax_trees.specs.declared.head.Head.{Head}
 use Rattle.cv_syntax_trees.specs.declared.head.Head.TheVariants.{New, Let, Binder}
 use Rattle.cv_syntax_trees.specs.Declarations.{Declaration}
@@ -19,9 +19,9 @@ use Rattle.cv_directory_sorts.specs.Sorts.{differs_from}
 use Rattle.cv_directory_sorts.specs.declared.sort.Sort.TheVariants.{OfType}
 use Rattle.cv_scope_rules.specs.Made.{made_by}
 use Rattle.cv_scope_rules.specs.Sites as site
-use Rattle.cv_typing_rules.specs.Signature.{Above, OfGame, Signature, variable_sort}
-use Rattle.cv_typing_rules.specs.Typing.{IsTyped}
-use Rattle.cv_typing_rules.specs.Wants.{Want, above_second, wants}
+use Rattle.cv_scope_rules.specs.typing.Signature.{Above, OfGame, Signature, variable_sort}
+use Rattle.cv_scope_rules.specs.typing.Typing.{IsTyped}
+use Rattle.cv_scope_rules.specs.typing.Wants.{Want, above_second, wants}
 use Rattle.cv_typing_runs.specs.Games.{context_of, sort_of_meaning, variable_of_meaning}
 use Rattle.cv_typing_runs.proofs.Terms.{faultless, same_sorts}
 use Rattle.cv_scene.specs.Scenes.{Scene}
@@ -29,7 +29,7 @@ use Rattle.cv_query_certificates.specs.Secrets.{is_copy}
 use Rattle.cv_query_laws.proofs.secrets.Alone.{AreOdd, none_odd}
 use Rattle.cv_query_laws.proofs.secrets.Copies.{HaveOneSort}
 use Rattle.cv_query_laws.proofs.secrets.Places.{sized_is_in}
-use Rattle.cv_query_quiet.proofs.Shapes.{left_false}
+use Rattle.cv_costs.proofs.quiet.Shapes.{left_false}
 use Rattle.cv_query_laws.proofs.secrets.Sizes.{Give, cells_size, draws_apart, no_coin, none_in_copies, or_else, parts_size, size_append, tests_apart}
 use Rattle.cv_query_laws.proofs.secrets.Swaps.{one_size}
 use Rattle.cv_lists.proofs.Tests.{differ_comm}

@@ -18,10 +18,10 @@ use Rattle.cv_scope_rules.specs.Phrases.{Inputs, is_phrase}
 use Rattle.cv_scope_rules.specs.Sites.{Variable}
 use Rattle.cv_query_certificates.specs.Secrets.{AreUnreadChoices, first_definition_but, is_choice}
 use Rattle.cv_query_laws.specs.secrets.Exchanged.{exchanged_on}
-use Rattle.cv_query_quiet.specs.Quiet.{IsQuiet, only}
-use Rattle.cv_query_quiet.specs.Twins.{Link}
-use Rattle.cv_query_quiet.proofs.Served.{But, One, guesses}
-use Rattle.cv_query_quiet.proofs.Shapes.{one_of}
+use Rattle.cv_costs.specs.quiet.Quiet.{IsQuiet, only}
+use Rattle.cv_costs.specs.quiet.Twins.{Link}
+use Rattle.cv_costs.proofs.quiet.Served.{But, One, guesses}
+use Rattle.cv_costs.proofs.quiet.Shapes.{one_of}
 use Rattle.cv_lists.proofs.Tests.{or_false}
 use Rattle.cv_lists.proofs.Each.{AllByRecursion_trivial}
 

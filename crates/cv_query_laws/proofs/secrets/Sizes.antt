@@ -19,7 +19,7 @@ use Rattle.cv_scope_rules.specs.Sites.{Variable}
 use Rattle.cv_query_certificates.specs.Secrets.{first_definition_but, is_choice}
 use Rattle.cv_query_laws.specs.secrets.Exchanged.{exchanged}
 use Rattle.cv_query_laws.proofs.secrets.Alone.{AreOdd, game_has_none, none_odd}
-use Rattle.cv_query_quiet.proofs.Shapes.{left_false}
+use Rattle.cv_costs.proofs.quiet.Shapes.{left_false}
 use Rattle.cv_lists.proofs.Tests.{differ_comm}
 
 -- lists

@@ -7,7 +7,7 @@ use Rattle.cv_derive_laws.specs.stores.Holding.{IsReady}
 use Rattle.cv_derive_laws.specs.stores.Soundness.{DerivationsHold}
 use Rattle.cv_scene.specs.Scenes.{Scene}
 use Rattle.cv_query_certificates.specs.Accepted.{IsAccepted}
-use Rattle.cv_query_kinds.specs.Closed.{IsClosedQuery}
+use Rattle.cv_query.specs.kinds.Closed.{IsClosedQuery}
 
 abbrev pub is_correspondence : (query : Tree) → Bool
 is_correspondence (Node Query binders sides) = true

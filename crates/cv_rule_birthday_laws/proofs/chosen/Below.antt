@@ -27,7 +27,7 @@ use Rattle.cv_typing_runs.proofs.Games.{first_nothing}
 use Rattle.cv_typing_runs.proofs.SameSites.{Agrees, sites_agree}
 use Rattle.cv_lists.proofs.Each.{AllByRecursion_left, AllByRecursion_right}
 use Rattle.cv_scene.specs.Scenes.{has_news_alone, is_new_head}
-use Rattle.cv_steps_wording.proofs.Reworded.{news_first, news_second}
+use Rattle.cv_costs.proofs.wording.Reworded.{news_first, news_second}
 
 -- all sites of a variable have the parameters of the first one
 module _ (ds : List Declaration) (game : Tree) (well : IsWellFormed ds game) where

@@ -23,8 +23,8 @@ use Rattle.cv_scope_rules.specs.Sites.{Variable}
 use Rattle.cv_scope_runs.proofs.Contexts.{put_other}
 use Rattle.cv_lists.proofs.Each.{AllByRecursion_append, AllByRecursion_weaker}
 use Rattle.cv_scene.specs.Scenes.{has_news_alone, is_new_head}
-use Rattle.cv_steps_wording.proofs.Branches.{bound_other}
-use Rattle.cv_steps_wording.proofs.Reworded.{news_first, news_second}
+use Rattle.cv_costs.proofs.wording.Branches.{bound_other}
+use Rattle.cv_costs.proofs.wording.Reworded.{news_first, news_second}
 use Rattle.cv_rule_codef.specs.kept.Kept.{HasIt, IsKept, Keeps}
 use Rattle.cv_rule_codef.proofs.kept.Keeping.{game_keeps}
 

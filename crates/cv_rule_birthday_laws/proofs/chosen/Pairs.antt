@@ -32,7 +32,7 @@ use Rattle.cv_scope_runs.proofs.FactsRuns.{well_game}
 use Rattle.cv_scope_runs.proofs.Games.{Game}
 use Rattle.cv_scope_runs.proofs.Plain.{game_context}
 use Rattle.cv_scope_runs.proofs.Standing.{Stands, root, in_first, in_second}
-use Rattle.cv_typing_rules.specs.Parts.{IsTypedGame}
+use Rattle.cv_scope_rules.specs.typing.Parts.{IsTypedGame}
 use Rattle.cv_typing_runs.specs.Games.{parameters_of}
 use Rattle.cv_typing_runs.proofs.Games.{restrictions}
 use Rattle.cv_typing_runs.proofs.SameSites.{branch_binders, input_binders}

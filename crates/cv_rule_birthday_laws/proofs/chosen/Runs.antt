@@ -17,7 +17,7 @@ use Rattle.cv_scope_runs.proofs.Games.{Game}
 use Rattle.cv_scope_runs.proofs.Plain.{game_context}
 use Rattle.cv_scope_runs.proofs.ServeRuns.{VisitHolds, game_holds}
 use Rattle.cv_scene.specs.Scenes.{has_news_alone}
-use Rattle.cv_steps_wording.specs.Facts.{HoldsIn}
+use Rattle.cv_costs.specs.wording.Facts.{HoldsIn}
 use Rattle.cv_rule_birthday_laws.specs.chosen.Drawn.{AreDrawn}
 use Rattle.cv_rule_birthday_laws.proofs.chosen.Below.{all_below}
 use Rattle.cv_rule_birthday_laws.proofs.chosen.Drawn.{AreOfTape, drawn_at_end, drawn_at_visits}

@@ -22,7 +22,7 @@ use Rattle.cv_steps.specs.Steps.{Leads}
 use Rattle.cv_derive_laws.specs.stores.Costs.{bound_of}
 use Rattle.cv_costs.specs.Factors.{with_parameter}
 use Rattle.cv_rule_fresh.specs.collisions.Choices.{choice_in}
-use Rattle.cv_rule_names.specs.Reach.{is_in_scope}
+use Rattle.cv_costs.specs.names.Reach.{is_in_scope}
 use Rattle.cv_rule_fresh.specs.collisions.Fresh.{fresh_row}
 use Rattle.cv_rule_fresh.specs.collisions.Worked.{chance_in, guessed, not_guessed, one_of_many, scene_of, three_values}
 

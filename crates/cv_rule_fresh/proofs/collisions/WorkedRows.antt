@@ -1,7 +1,7 @@
 -- The rows in small games are those that are said.
 use Rattle.std.proofs.Common.{◌≡◌, refl}
 use Rattle.std.specs.List.{AllByRecursion}
-use Rattle.cv_syntax_faults.specs.Walk.{first_fault}
+use Rattle.cv_syntax.specs.faults.Walk.{first_fault}
 use Rattle.cv_syntax_trees.specs.Tree.{same_tree, size, subtree}
 use Rattle.cv_meaning.specs.Replaced.{replaced}
 use Rattle.cv_directory_sorts.specs.Counting.{count}
@@ -14,7 +14,7 @@ use Rattle.cv_scope_rules.specs.Standing.{at_root}
 use Rattle.cv_scope_rules.proofs.First.{scoped_where_none}
 use Rattle.cv_steps.specs.Rewriting.{has_term_at}
 use Rattle.cv_rule_fresh.specs.collisions.Choices.{choice_in}
-use Rattle.cv_rule_names.specs.Reach.{is_in_scope}
+use Rattle.cv_costs.specs.names.Reach.{is_in_scope}
 use Rattle.cv_rule_fresh.specs.collisions.Fresh.{fresh_row}
 use Rattle.cv_rule_fresh.specs.collisions.Worked.{cases, current, declared, guesses}
 

@@ -10,7 +10,7 @@ use Rattle.cv_steps.specs.Steps.{Fails, Leads, Row, Step}
 use Rattle.cv_costs.specs.Collisions.{one_for_each}
 use Rattle.cv_costs.specs.Large.{is_large}
 use Rattle.cv_rule_fresh.specs.collisions.Choices.{Choice, choice_above, parameters_at}
-use Rattle.cv_rule_names.specs.Reach.{is_in_scope_at}
+use Rattle.cv_costs.specs.names.Reach.{is_in_scope_at}
 use Rattle.cv_rule_fresh.specs.collisions.Equalities.{Equality, current_variable, equality_at}
 
 -- the other side is in scope at a `new` of a large type, whose copies are counted

@@ -1,5 +1,5 @@
 use Rattle.std.proofs.Common.{◌≡◌, Option, Some, None, refl}
-use Rattle.cv_syntax_faults.specs.Walk.{first_fault}
+use Rattle.cv_syntax.specs.faults.Walk.{first_fault}
 use Rattle.cv_syntax_trees.specs.Tree.{size, same_tree, reads_only}
 use Rattle.cv_meaning.specs.Direct.{argument, is_substituted, is_instance, plainly_covered}
 use Rattle.cv_meaning.specs.Memory.{put}

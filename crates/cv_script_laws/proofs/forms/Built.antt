@@ -10,7 +10,7 @@ use Rattle.cv_parse_grammar.specs.Names.{Uses}
 use Rattle.cv_parse_grammar.specs.declared.role.Role.{Role}
 use Rattle.cv_parse_tables.specs.Table.{Nowhere, Row, TableSort, TreesForm, blank, form, many_form, one_of, table_heads, table_rule}
 use Rattle.cv_parse_tables.specs.Trees.{both_of, single}
-use Rattle.cv_script_reader.specs.Scripts.{script_of}
+use Rattle.cv_script.specs.reader.Scripts.{script_of}
 use Rattle.cv_script_laws.proofs.forms.Agreement.{sorts_pass, sort_spelled_back, spells_same}
 use Rattle.cv_script_laws.proofs.forms.Deciding.{agree, closed, takes}
 use Rattle.cv_script_laws.proofs.forms.Fitting.{deep_rule, is_deep}

@@ -19,14 +19,14 @@ use Rattle.cv_parse_grammar.specs.Phrases.{Sort}
 use Rattle.cv_parse_grammar.specs.Rules.{rule}
 use Rattle.cv_parse_tables.specs.Table.{Nowhere, OfFiles, Row, TableSort, carried, table_heads, table_rule}
 use Rattle.cv_script.specs.rows.Rows.{script_row, script_rows}
-use Rattle.cv_script_reader.specs.Scripts.{begins_step, to_end, items, of_read, read_row, with_room, script_of, stop_at}
+use Rattle.cv_script.specs.reader.Scripts.{begins_step, to_end, items, of_read, read_row, with_room, script_of, stop_at}
 use Rattle.cv_syntax.specs.limits.Limits.{nodes_of}
-use Rattle.cv_script_reader.specs.declared.error.ScriptError.{ScriptError}
-use Rattle.cv_script_reader.specs.declared.error.ScriptError.TheVariants.{Build, Script, Unbuilt}
+use Rattle.cv_script.specs.declared.reader.error.ScriptError.{ScriptError}
+use Rattle.cv_script.specs.declared.reader.error.ScriptError.TheVariants.{Build, Script, Unbuilt}
 use Rattle.cv_script_laws.specs.forms.Scripts.{IsScript, IsSomeScript, Takes, script_form}
 use Rattle.cv_script_laws.proofs.forms.Agreement.{reads_same, sorts_pass, sorts_same, sort_spelled, sort_spelled_back, spells_same}
 use Rattle.cv_script_laws.proofs.forms.Fitting.{all_fit, deep_rule, deep_tails, is_deep, line_row, script_fits, script_steady, when_deep}
-use Rattle.cv_script_reader.proofs.Steps.{full, room as roomy}
+use Rattle.cv_script.proofs.reader.Steps.{full, room as roomy}
 use Rattle.std.proofs.lemmas.Bool.{and_from}
 
 -- forms of files ask for phrases of files alone

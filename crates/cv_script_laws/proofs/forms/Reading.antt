@@ -14,10 +14,10 @@ use Rattle.cv_parse_grammar.specs.Files.{levels}
 use Rattle.cv_parse_grammar.specs.Names.{Uses}
 use Rattle.cv_parse_tables.specs.Table.{Row, table_heads, table_rule}
 use Rattle.cv_script.specs.rows.Rows.{script_rows}
-use Rattle.cv_script_reader.specs.Scripts.{items as items_of, of_read, read_row, script_of, to_end, with_room}
+use Rattle.cv_script.specs.reader.Scripts.{items as items_of, of_read, read_row, script_of, to_end, with_room}
 use Rattle.cv_syntax.specs.limits.Limits.{nodes_of}
-use Rattle.cv_script_reader.specs.declared.error.ScriptError.{ScriptError}
-use Rattle.cv_script_reader.specs.declared.error.ScriptError.TheVariants.{Build}
+use Rattle.cv_script.specs.declared.reader.error.ScriptError.{ScriptError}
+use Rattle.cv_script.specs.declared.reader.error.ScriptError.TheVariants.{Build}
 use Rattle.cv_script_laws.proofs.forms.Agreement.{reads_same, sorts_pass, sorts_same}
 use Rattle.cv_script_laws.proofs.forms.Deciding.{agree, closed}
 use Rattle.cv_script_laws.proofs.forms.Fitting.{all_fit, deep_rule, deep_tails, is_deep}

@@ -11,9 +11,9 @@ use Rattle.cv_parse_grammar.specs.Files.{levels}
 use Rattle.cv_parse_grammar.specs.declared.role.Role.{Role}
 use Rattle.cv_parse_tables.specs.Table.{Row, TableSort, TreesForm, blank, never, one_of, row_phrase, table_heads, table_rule}
 use Rattle.cv_parse_tables.specs.Trees.{all_of, both_of, perhaps, single}
-use Rattle.cv_script_reader.specs.declared.error.ScriptError.{ScriptError}
-use Rattle.cv_script_reader.specs.declared.error.ScriptError.TheVariants.{Script, Unbuilt}
-use Rattle.cv_script_reader.specs.Scripts.{begins_step, of_read, read_row, script_of, to_end}
+use Rattle.cv_script.specs.declared.reader.error.ScriptError.{ScriptError}
+use Rattle.cv_script.specs.declared.reader.error.ScriptError.TheVariants.{Script, Unbuilt}
+use Rattle.cv_script.specs.reader.Scripts.{begins_step, of_read, read_row, script_of, to_end}
 use Rattle.cv_script_laws.specs.forms.Scripts.{IsSomeScript}
 use Rattle.cv_script_laws.proofs.forms.Built.{built_is, item, script, script_is, step_rows}
 use Rattle.cv_script_laws.proofs.forms.Deciding.{refuses}

@@ -13,7 +13,7 @@ use Rattle.cv_parse_notation.specs.Whole.{SpellsWith}
 use Rattle.cv_parse_grammar.specs.Files.{levels}
 use Rattle.cv_parse_tables.specs.Table.{Row, table_heads, table_rule}
 use Rattle.cv_parse_tables.specs.Trees.{all_of, over, single}
-use Rattle.cv_script_reader.specs.Scripts.{items as items_of, script_of}
+use Rattle.cv_script.specs.reader.Scripts.{items as items_of, script_of}
 use Rattle.cv_script_laws.proofs.forms.Agreement.{sorts_pass}
 use Rattle.cv_script_laws.proofs.forms.Fitting.{deep_rule}
 use Rattle.cv_print_scripts.specs.steps.Trees.{Behind, JustOne, Makes}

@@ -4,7 +4,7 @@ use Rattle.cv_syntax_trees.specs.Tree.{Tree}
 use Rattle.cv_parse_notation.specs.Spells.{IsSort}
 use Rattle.cv_parse_tables.specs.terminals.ScriptSigns.{script_signs}
 use Rattle.cv_parse_grammar.specs.Files.{levels}
-use Rattle.cv_script_reader.specs.Scripts.{items}
+use Rattle.cv_script.specs.reader.Scripts.{items}
 use Rattle.cv_syntax.specs.limits.Limits.{nodes_of}
 use Rattle.cv_script_laws.proofs.forms.Deciding.{one_script, takes}
 use Rattle.cv_script.specs.rows.Rows.{script_row, script_rows}

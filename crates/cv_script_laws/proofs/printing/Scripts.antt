@@ -11,7 +11,7 @@ use Rattle.cv_parse_notation.specs.declared.sign.Sign.{Sign}
 use Rattle.cv_parse_grammar.specs.Files.{levels}
 use Rattle.cv_parse_tables.specs.terminals.ScriptSigns.{between, script_signs}
 use Rattle.cv_parse_tables.specs.Trees.{all_of, single}
-use Rattle.cv_script_reader.specs.Scripts.{items as items_of, script_of, script_read}
+use Rattle.cv_script.specs.reader.Scripts.{items as items_of, script_of, script_read}
 use Rattle.cv_syntax.specs.limits.Limits.{nodes_of}
 use Rattle.cv_script_laws.proofs.forms.Agreement.{sorts_pass}
 use Rattle.cv_print_bytes.specs.Known.{AreNames}

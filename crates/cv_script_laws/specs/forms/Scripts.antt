@@ -9,7 +9,7 @@ use Rattle.cv_parse_grammar.specs.declared.role.Role.{Role}
 use Rattle.cv_parse_grammar.specs.Files.{levels}
 use Rattle.cv_parse_tables.specs.Table.{Row, TableSort, table_heads, table_rule}
 use Rattle.cv_script.specs.rows.Rows.{script_row, script_rows}
-use Rattle.cv_script_reader.specs.Scripts.{items as items_of}
+use Rattle.cv_script.specs.reader.Scripts.{items as items_of}
 use Rattle.cv_syntax.specs.limits.Limits.{nodes_of}
 
 -- the form of a script

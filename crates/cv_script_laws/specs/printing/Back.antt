@@ -3,7 +3,7 @@ use Rattle.std.specs.Prelude.{◌≡◌, ℕ, List, Ok}
 use Rattle.cv_lex.specs.Lexis.{Token, tokens_of}
 use Rattle.cv_syntax_trees.specs.Tree.{Tree}
 use Rattle.cv_parse_tables.specs.terminals.ScriptSigns.{script_signs}
-use Rattle.cv_script_reader.specs.Scripts.{script_of}
+use Rattle.cv_script.specs.reader.Scripts.{script_of}
 use Rattle.cv_script.specs.rows.Rows.{script_row}
 
 -- behind these names, in a pool with so many nodes and this limit, the text is a script of these steps

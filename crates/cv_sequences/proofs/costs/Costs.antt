@@ -7,7 +7,7 @@ use Rattle.cv_meaning.specs.Interpretation.{Interpretation}
 use Rattle.cv_meaning_chances.specs.Fractions.{plus}
 use Rattle.cv_bound.specs.declared.cost.Collision.{Collision}
 use Rattle.cv_bound.specs.declared.cost.Cost.TheVariants as bound
-use Rattle.cv_bound_values.specs.Values.{Advantages, collision_value, cost_value}
+use Rattle.cv_steps.specs.values.Values.{Advantages, collision_value, cost_value}
 use Rattle.cv_steps.specs.Chances.{KeepsChances}
 use Rattle.cv_steps.specs.Costs.{cost_of}
 use Rattle.cv_steps.specs.Steps.{Collisions, Cost, Zero}

@@ -3,7 +3,7 @@ use Rattle.std.proofs.Common.{◌≡◌, ℕ, zero, suc, ◌*◌, ◌<◌, refl,
 use Rattle.cv_meaning.specs.Chances.{AtMost, Chance, Same}
 use Rattle.cv_meaning_chances.specs.Fractions.{HasTapes, plus}
 use Rattle.cv_meaning_chances.proofs.FractionLaws.{at_most_trans}
-use Rattle.cv_bound_values.proofs.Adding.{factor_positive}
+use Rattle.cv_steps.proofs.values.Adding.{factor_positive}
 use Rattle.cv_meaning_chances.proofs.LikeTests.{same_trans}
 
 pub fraction : (p q : Chance) → p.good ≡ q.good → p.all ≡ q.all → p ≡ q

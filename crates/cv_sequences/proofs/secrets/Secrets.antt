@@ -14,7 +14,7 @@ use Rattle.cv_meaning_chances.proofs.FractionLaws.{at_most_trans, distance_kept,
 use Rattle.cv_meaning_chances.specs.values.Values.{HasValuesIn}
 use Rattle.cv_meaning_chances.proofs.values.Tapes.{tapes}
 use Rattle.cv_bound.specs.declared.cost.Cost.{Cost as SumCost}
-use Rattle.cv_bound_values.specs.Values.{Advantages, sum_value}
+use Rattle.cv_steps.specs.values.Values.{Advantages, sum_value}
 use Rattle.cv_sequences.specs.Chains.{HaveTapedPrices, IsChain, IsFileOf, Link, Prices, costs_behind, names_below, summed}
 use Rattle.cv_sequences.proofs.Chains.{taped as taped_sum, valued as chain_valued, within, same_end}
 use Rattle.cv_sequences.specs.secrets.Sums.{summed_by}

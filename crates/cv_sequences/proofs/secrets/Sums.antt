@@ -9,8 +9,8 @@ use Rattle.cv_bound.specs.declared.cost.Cost.TheVariants as cost
 use Rattle.cv_bound.specs.declared.terms.Experiment.TheVariants as term
 use Rattle.cv_bound.specs.declared.terms.Term.{Term}
 use Rattle.cv_bound.specs.Sums.{added}
-use Rattle.cv_bound_values.specs.Values.{Advantages, collision_value, cost_value, sum_value}
-use Rattle.cv_bound_values.proofs.Adding.{tapes_are_kept, value_is_added}
+use Rattle.cv_steps.specs.values.Values.{Advantages, collision_value, cost_value, sum_value}
+use Rattle.cv_steps.proofs.values.Adding.{tapes_are_kept, value_is_added}
 use Rattle.cv_sequences.specs.Chains.{summed}
 use Rattle.cv_sequences.specs.secrets.Sums.{summed_by}
 use Rattle.cv_sequences.proofs.secrets.Alike.{AreAlike, alike_equal, alike_plus, alike_sym, alike_trans, fraction}

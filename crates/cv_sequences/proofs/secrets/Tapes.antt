@@ -2,7 +2,7 @@
 use Rattle.std.proofs.Common.{◌≡◌, ℕ, ◌<◌, ◌&&◌, ◌==◌, Bool, true, false, List, [], ◌∷◌, refl, subst, arith, mul-pos, eqb-true}
 use Rattle.std.specs.Bool.{beq}
 use Rattle.std.proofs.lemmas.Bool.{and_parts}
-use Rattle.cv_names.specs.declared.names.NameId.{NameId}
+use Rattle.cv_pool.specs.declared.names.names.NameId.{NameId}
 use Rattle.cv_meaning.specs.Interpretation.{Interpretation}
 use Rattle.cv_meaning_chances.specs.Fractions.{HasTapes, plus}
 use Rattle.cv_bound.specs.declared.cost.Collision.{Collision}
@@ -10,8 +10,8 @@ use Rattle.cv_bound.specs.declared.cost.Cost.{Cost}
 use Rattle.cv_bound.specs.declared.terms.Term.{Term}
 use Rattle.cv_bound.specs.declared.terms.Term.TheVariants as term
 use Rattle.cv_bound.specs.Sums.{added, are_alike, merged, same_factors, terms_of, with_term, with_terms}
-use Rattle.cv_bound_values.specs.Values.{Advantages, collision_value, cost_value, over_value, sum_value, term_value}
-use Rattle.cv_bound_values.proofs.Adding.{collision_has_tapes, sum_value_append, factor_positive}
+use Rattle.cv_steps.specs.values.Values.{Advantages, collision_value, cost_value, over_value, sum_value, term_value}
+use Rattle.cv_steps.proofs.values.Adding.{collision_has_tapes, sum_value_append, factor_positive}
 use Rattle.cv_sequences.proofs.secrets.Alike.{left_positive}
 
 size_positive : (i : Interpretation) (half : Bool) (T : NameId) → 0 < over_value i half T → 0 < i.type_size T.0

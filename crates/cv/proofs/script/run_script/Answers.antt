@@ -1,7 +1,7 @@
 use Rattle.std.proofs.Common.{arith, refl, ap, sym, subst, ◌∙◌, Some, inr, length, map}
 use Rattle.cv_pool.proofs.Growth.{Grows_length}
 use Rattle.cv_syntax.specs.Declarations.{declarations}
-use Rattle.cv_script_reader.specs.Scripts.{trees_of}
+use Rattle.cv_script.specs.reader.Scripts.{trees_of}
 use Rattle.cv_meaning.specs.Queries.{queries_in}
 use Rattle.cv_accept.specs.Accepted.{Content}
 use Rattle.cv_accept.specs.Works.{content_at, content_nodes}

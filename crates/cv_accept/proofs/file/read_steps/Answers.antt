@@ -1,6 +1,6 @@
 use Rattle.std.proofs.Common.{◌≡◌, length, subst, Some, Ok}
-use Rattle.cv_script_reader.specs.Scripts as scripts
-use Rattle.cv_script_reader.specs.Scripts.{script_read, trees_of}
+use Rattle.cv_script.specs.reader.Scripts as scripts
+use Rattle.cv_script.specs.reader.Scripts.{script_read, trees_of}
 use Rattle.cv_script.specs.rows.Rows.{built_script_row}
 use Rattle.cv_accept.proofs.Blocks.{block_on, block_refused, block_taken}
 use Rattle.cv_accept.proofs.file.read_steps.Goals as goal

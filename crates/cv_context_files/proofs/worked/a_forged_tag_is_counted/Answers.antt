@@ -2,7 +2,7 @@ use Rattle.std.proofs.Common.{refl}
 use Rattle.cv_syntax_trees.specs.Tree.{reads_only, same_tree, size}
 use Rattle.cv_derive_rules.specs.Given.{with_given}
 use Rattle.cv_directory_sorts.specs.Sites.{bound_sort, first_site}
-use Rattle.cv_typing_rules.specs.Signature.{names_in}
+use Rattle.cv_scope_rules.specs.typing.Signature.{names_in}
 use Rattle.cv_meaning.specs.Tapes.{written, sum_below, count, total}
 use Rattle.cv_meaning.specs.Candidates.{tuples_up_to}
 use Rattle.cv_meaning.specs.Memory.{put}
@@ -15,12 +15,12 @@ use Rattle.cv_meaning.specs.Cells.{tuples_below, at_each_copy, cells}
 use Rattle.cv_meaning.specs.Experiments.{run, holds_on}
 use Rattle.cv_meaning.specs.Correspondences.{assignments, positions, ways, can_match, broken}
 use Rattle.cv_meaning.specs.Advantage.{chance_of}
-use Rattle.cv_meaning_contexts.specs.Sites.{bounds_above, sites_from}
-use Rattle.cv_meaning_contexts.specs.Frames.{put_at}
-use Rattle.cv_meaning_contexts.specs.BodyTerms.{body_value, body_values}
-use Rattle.cv_meaning_contexts.specs.Finds.{picks_at, picks, picked}
-use Rattle.cv_meaning_contexts.specs.Bodies.{body_answer, branch_answer, reply}
-use Rattle.cv_meaning_contexts.specs.Sides.{body_cells}
+use Rattle.cv_meaning.specs.contexts.Sites.{bounds_above, sites_from}
+use Rattle.cv_meaning.specs.contexts.Frames.{put_at}
+use Rattle.cv_meaning.specs.contexts.BodyTerms.{body_value, body_values}
+use Rattle.cv_meaning.specs.contexts.Finds.{picks_at, picks, picked}
+use Rattle.cv_meaning.specs.contexts.Bodies.{body_answer, branch_answer, reply}
+use Rattle.cv_meaning.specs.contexts.Sides.{body_cells}
 use Rattle.cv_meaning.specs.Queries.{queries_in}
 use Rattle.cv_scope_rules.specs.Made.{is_bound}
 use Rattle.cv_scene.specs.Scenes.{first_reading}

@@ -4,7 +4,7 @@ use Rattle.cv_meaning.specs.Advantage.{chance_of}
 use Rattle.cv_meaning.specs.Chances.{AtMost, distance}
 use Rattle.cv_meaning.specs.Experiments.{Breaks}
 use Rattle.cv_meaning.specs.Interpretation.{setting_of}
-use Rattle.cv_meaning_contexts.specs.ContextAdvantage.{context_advantage}
+use Rattle.cv_meaning.specs.contexts.ContextAdvantage.{context_advantage}
 use Rattle.cv_scene.specs.Reductions.{context_of_game}
 use Rattle.cv_context_right_side.proofs.Steps as steps
 use Rattle.cv_context_right_side.proofs.Steps.{step_costs}

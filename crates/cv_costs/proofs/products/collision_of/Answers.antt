@@ -1,5 +1,5 @@
 use Rattle.std.proofs.Common.{ℕ, Bool, List, length, ap, arith, sym, ◌∙◌}
-use Rattle.cv_names.specs.declared.names.NameId.{NameId}
+use Rattle.cv_pool.specs.declared.names.names.NameId.{NameId}
 use Rattle.cv_bound.specs.declared.cost.Collision.{Collision}
 use Rattle.cv_costs.specs.Factors.{factors_of, parameters_in}
 use Rattle.cv_costs.proofs.Parameters.{as_many, same_parameters}

@@ -2,7 +2,7 @@ use Rattle.std.proofs.Common.{ap, ap₂, arith, length, refl, subst, sym, take, 
 use Rattle.std.proofs.lemmas.List.{take_all}
 use Rattle.cv_bound.specs.closings.Queries.{first_unclosed, numbers_of, sum_in}
 use Rattle.cv_report.specs.verdicts.Verdicts.{ended_with, verdicts_by}
-use Rattle.cv_script_reader.specs.Scripts.{trees_of}
+use Rattle.cv_script.specs.reader.Scripts.{trees_of}
 use Rattle.cv_syntax.specs.Classes.{queries}
 use Rattle.cv_syntax.specs.PoolTrees.{tree_at}
 use Rattle.cv_syntax.specs.declared.work.Game.{Game}

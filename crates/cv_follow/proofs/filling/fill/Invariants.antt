@@ -1,6 +1,6 @@
 use Rattle.std.proofs.Common.{◌≤◌, Some, length, take}
 use Rattle.cv_syntax.specs.PoolTrees.{tree_at}
-use Rattle.cv_script_reader.specs.Scripts.{trees_of}
+use Rattle.cv_script.specs.reader.Scripts.{trees_of}
 use Rattle.cv_accept.specs.Accepted.{most_pool}
 use Rattle.cv_follow.specs.Fillings.{IsFilling}
 use Rattle.cv_follow.specs.Searches.{MayTry}

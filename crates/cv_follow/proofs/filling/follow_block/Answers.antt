@@ -2,7 +2,7 @@ use Rattle.std.proofs.Common.{length, map, sym, ◌∙◌, Some}
 use Rattle.cv_syntax.specs.Classes.{queries}
 use Rattle.cv_syntax.specs.Declarations.{declarations}
 use Rattle.cv_syntax.specs.PoolTrees.{tree_at}
-use Rattle.cv_script_reader.specs.Scripts.{trees_of}
+use Rattle.cv_script.specs.reader.Scripts.{trees_of}
 use Rattle.cv_follow.proofs.Fillings.{block_filled, block_plain}
 use Rattle.cv_follow.proofs.filling.follow_block.Goals as goal
 

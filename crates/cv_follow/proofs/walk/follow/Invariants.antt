@@ -2,7 +2,7 @@ use Rattle.std.proofs.Common.{◌≡◌, ◌≤◌, false, Some, length, map, ta
 use Rattle.cv_pool.specs.PoolView.{Grows}
 use Rattle.cv_syntax.specs.Declarations.{declarations}
 use Rattle.cv_syntax.specs.PoolTrees.{tree_at}
-use Rattle.cv_script_reader.specs.Scripts.{trees_of}
+use Rattle.cv_script.specs.reader.Scripts.{trees_of}
 use Rattle.cv_accept.specs.Accepted.{most_pool}
 use Rattle.cv_kernel.specs.Sequences.{Stands}
 use Rattle.cv_kernel.specs.Drawings.{DrawsAlong}

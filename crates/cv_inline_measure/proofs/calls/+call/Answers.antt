@@ -1,6 +1,6 @@
 use Rattle.std.proofs.Common.{ap, ◌∙◌}
 use Rattle.std.proofs.lemmas.Result.{IfOk-weaker}
-use Rattle.cv_meaning_contexts.specs.Inlined.{index_terms}
+use Rattle.cv_meaning.specs.contexts.Inlined.{index_terms}
 use Rattle.cv_inline_measure.specs.Counts.{IsTold}
 use Rattle.cv_inline_sites.specs.pairs.Scopes.{scope_at}
 use Rattle.cv_inline_measure.specs.Settings.{body_in, call_in}

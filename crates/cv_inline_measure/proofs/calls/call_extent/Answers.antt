@@ -4,7 +4,7 @@ use Rattle.std.proofs.lemmas.Result.{IfOk-weaker}
 use Rattle.cv_syntax_trees.specs.Tree.{lone}
 use Rattle.cv_syntax.specs.PoolTrees.{tree_at}
 use Rattle.cv_syntax_trees.specs.declared.head.Head.TheVariants.{No}
-use Rattle.cv_meaning_contexts.specs.Groups.{Group}
+use Rattle.cv_meaning.specs.contexts.Groups.{Group}
 use Rattle.cv_inline.specs.NextGame.{numbered}
 use Rattle.cv_inline_laws.specs.extents.Extents.{of_call_at}
 use Rattle.cv_inline_sites.specs.listing.Callings.{calling_in, callings_in}

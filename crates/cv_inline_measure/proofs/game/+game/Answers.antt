@@ -7,7 +7,7 @@ use Rattle.cv_syntax.proofs.Trees.{child_live, empty_at}
 use Rattle.cv_syntax.proofs.Walking.{above_child, above_some, size_node}
 use Rattle.std.proofs.Common.{ℕ, ◌≡◌}
 use Rattle.cv_syntax_trees.specs.Tree.{Tree}
-use Rattle.cv_meaning_contexts.specs.Groups.{Group}
+use Rattle.cv_meaning.specs.contexts.Groups.{Group}
 use Rattle.cv_inline.specs.NextGame.{numbered}
 use Rattle.cv_inline_laws.specs.extents.Extents.{of_call_at, of_game}
 use Rattle.cv_inline_measure.specs.declared.game.Kind.{Kind}

@@ -1,9 +1,9 @@
-use Rattle.cv_meaning_contexts.specs.Groups.{Right}
-use Rattle.cv_group_rules.specs.Rules.{functions_in}
+use Rattle.cv_meaning.specs.contexts.Groups.{Right}
+use Rattle.cv_group.specs.rules.Rules.{functions_in}
 use Rattle.cv_inline.specs.bodies.Inlining.{Inlining}
 use Rattle.cv_inline.specs.NextGame.{Calling, callers_of, callings_of}
-use Rattle.cv_meaning_contexts.specs.Groups.{side_group}
-use Rattle.cv_inline_draws_laws.specs.DrawnNames.{names_of_draws}
+use Rattle.cv_meaning.specs.contexts.Groups.{side_group}
+use Rattle.cv_inline_laws.specs.draws.DrawnNames.{names_of_draws}
 use Rattle.cv_inline_names_laws.specs.accepted.Drawn.{IsDrawnFor}
 use Rattle.cv_inline_names_laws.specs.covered.Covered.{HasDraws}
 use Rattle.cv_inline_names_laws.proofs.covered.Functions.{all_callings, drawn_for}

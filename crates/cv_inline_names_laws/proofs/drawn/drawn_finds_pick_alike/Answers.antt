@@ -1,6 +1,6 @@
 use Rattle.std.proofs.Common.{ap}
-use Rattle.cv_inline_draws_laws.specs.DrawnNames.{find_in}
-use Rattle.cv_inline_draws_laws.proofs.Names.{label_again}
+use Rattle.cv_inline_laws.specs.draws.DrawnNames.{find_in}
+use Rattle.cv_inline_laws.proofs.draws.Names.{label_again}
 use Rattle.cv_inline_names_laws.specs.cells.Cells.{names_in}
 use Rattle.cv_inline_names_laws.proofs.cells.Swaps.{picked_swapped}
 use Rattle.cv_inline_names_laws.specs.drawn.Named.{names_of, text_of}

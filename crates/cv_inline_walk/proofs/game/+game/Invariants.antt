@@ -1,6 +1,6 @@
 use Rattle.std.proofs.Common.{◌≡◌, ◌+◌, ◌*◌, take}
 use Rattle.cv_syntax.specs.Walks.{above}
-use Rattle.cv_meaning_contexts.specs.Groups.{Group}
+use Rattle.cv_meaning.specs.contexts.Groups.{Group}
 use Rattle.cv_inline.specs.terms.Drawings.{drawn_in}
 use Rattle.cv_inline.specs.terms.Stacks.{stack}
 use Rattle.cv_inline_walk.specs.pieces.Pieces.{pieced}

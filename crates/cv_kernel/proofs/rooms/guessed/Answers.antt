@@ -3,8 +3,8 @@ use Rattle.std.specs.Prelude.{IfNone, IfSome}
 use Rattle.cv_syntax.specs.PoolTrees.{tree_at}
 use Rattle.cv_scene_view.specs.Kept.{scene_of}
 use Rattle.cv_steps.specs.Judgements.{judgement_of}
-use Rattle.cv_rule_guess.specs.Needs.{made_without_guesses, need_guessing}
-use Rattle.cv_rule_guess.specs.Row.{guess_step}
+use Rattle.cv_rule_birthday.specs.guess.Needs.{made_without_guesses, need_guessing}
+use Rattle.cv_rule_birthday.specs.guess.Row.{guess_step}
 use Rattle.cv_kernel.specs.Answers.{IsPlan, IsUnplanned}
 use Rattle.cv_kernel.specs.Places.{has_long, listed_numbers}
 use Rattle.cv_kernel.proofs.Planned.{no_such_places, stands_not}

@@ -1,6 +1,6 @@
 use Rattle.std.proofs.Common.{arith, refl, subst}
 use Rattle.cv_scene_view.specs.Kept.{scene_of}
-use Rattle.cv_rule_merge.specs.Row.{merge_step, need_merging}
+use Rattle.cv_rule_move.specs.merge.Row.{merge_step, need_merging}
 use Rattle.cv_script.specs.Views as items
 use Rattle.cv_kernel.specs.Answers.{IsEditPlan}
 use Rattle.cv_kernel.specs.Rules.{rule_of_items}

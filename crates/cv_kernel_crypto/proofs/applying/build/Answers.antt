@@ -1,7 +1,7 @@
 use Rattle.std.proofs.Common.{◌≡◌, ◌+◌, ◌≤◌, arith, length, subst, sym, Some, Err, ap, ◌∙◌}
 use Rattle.cv_syntax.specs.Declarations.{declarations}
 use Rattle.cv_syntax.specs.PoolTrees.{tree_at}
-use Rattle.cv_meaning_contexts.specs.Groups.{Right, side_group}
+use Rattle.cv_meaning.specs.contexts.Groups.{Right, side_group}
 use Rattle.cv_scene_view.specs.Kept.{scene_of}
 use Rattle.cv_scene.specs.Reductions.{context_of_game}
 use Rattle.cv_context.specs.Roles.{AreSitesOf}
@@ -9,7 +9,7 @@ use Rattle.cv_context_laws.proofs.calls.Keys.{listed_keys}
 use Rattle.cv_inline_draws.specs.callings.Sites.{HasListedKeys}
 use Rattle.cv_inline_walk.specs.Made.{IsMade, IsTreeAt}
 use Rattle.cv_inline_walk.specs.Steps.{next_tree}
-use Rattle.cv_steps_crypto.specs.Steps.{reduction_of}
+use Rattle.cv_steps_laws.specs.crypto.Steps.{reduction_of}
 use Rattle.cv_syntax.specs.limits.Limits.{nodes_of}
 use Rattle.cv_inline.specs.terms.Drawings.{drawn_in}
 use Rattle.cv_kernel_crypto.specs.Applied.{IsDrawnWith}

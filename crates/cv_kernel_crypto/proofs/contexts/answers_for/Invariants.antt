@@ -1,6 +1,6 @@
 use Rattle.std.proofs.Common.{◌≡◌, ℕ, ◌+◌, ◌<◌, length}
 use Rattle.cv_context.specs.Roles.{name_at}
-use Rattle.cv_steps_crypto.specs.Steps.{first_answer}
+use Rattle.cv_steps_laws.specs.crypto.Steps.{first_answer}
 use Rattle.cv_kernel_crypto.proofs.contexts.answers_for.Given as goal
 
 abbrev pub invariant-loop-k : goal.invariant-loop-k

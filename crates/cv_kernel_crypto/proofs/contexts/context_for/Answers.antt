@@ -1,7 +1,7 @@
 use Rattle.std.proofs.Common.{◌≡◌, ap, subst, Some, ◌∙◌}
 use Rattle.std.specs.Prelude.{IfOk}
 use Rattle.cv_syntax.specs.PoolTrees.{tree_at}
-use Rattle.cv_meaning_contexts.specs.Sides.{Context}
+use Rattle.cv_meaning.specs.contexts.Sides.{Context}
 use Rattle.cv_context.specs.Roles.{name_at}
 use Rattle.cv_syntax.specs.limits.Limits.{nodes_of}
 use Rattle.cv_kernel_crypto.proofs.Reduced.{context_same}

@@ -1,12 +1,12 @@
 use Rattle.std.proofs.Common.{◌≡◌, ℕ, ◌≤◌, ◌^◌, arith, length, subst, sym, ap, ◌∙◌}
-use Rattle.cv_meaning_contexts.specs.Groups.{Right, side_group}
+use Rattle.cv_meaning.specs.contexts.Groups.{Right, side_group}
 use Rattle.cv_match_laws.specs.answers.Answers.{file_scene}
 use Rattle.cv_match_laws.specs.answers.Drawn.{draws, finds}
 use Rattle.cv_inline_sites.specs.listing.Callings.{callings_in}
 use Rattle.cv_inline_draws.specs.names.Fresh.{IsDrawnFor}
-use Rattle.cv_steps_crypto.specs.reductions.Tables.{labels}
+use Rattle.cv_steps_laws.specs.crypto.reductions.Tables.{labels}
 use Rattle.cv_inline.specs.terms.Drawings.{drawn_in}
-use Rattle.cv_steps_crypto.specs.Steps.{first_answer, reduction_of}
+use Rattle.cv_steps_laws.specs.crypto.Steps.{first_answer, reduction_of}
 use Rattle.cv_kernel_crypto.proofs.Inlined.{drawn_same}
 use Rattle.cv_kernel_crypto.proofs.inlining.inlining_for.Goals as goal
 

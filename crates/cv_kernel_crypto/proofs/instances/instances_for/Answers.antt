@@ -6,7 +6,7 @@ use Rattle.cv_scene_view.specs.Kept.{scene_of}
 use Rattle.cv_scene.specs.Refusals.{first_refusal}
 use Rattle.cv_match.proofs.Fitting.{equiv_live}
 use Rattle.cv_match.specs.Matched.{matching_of}
-use Rattle.cv_steps_crypto.specs.Conditions.{failure_by, failure_of}
+use Rattle.cv_steps_laws.specs.crypto.Conditions.{failure_by, failure_of}
 use Rattle.cv_kernel_crypto.specs.Faults.{IsRefused, fault_of}
 use Rattle.cv_kernel_crypto.proofs.Failing.{node_named, refused_by, refused_through, with_both, without_equivalence, without_variable}
 use Rattle.cv_kernel_crypto.proofs.Found.{calls_found, right_found, sites_found}

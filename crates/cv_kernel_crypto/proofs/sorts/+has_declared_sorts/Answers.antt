@@ -5,7 +5,7 @@ use Rattle.cv_syntax.specs.Walks.{above}
 use Rattle.cv_syntax.proofs.Trees.{child_above, child_live, empty_at, node_at}
 use Rattle.cv_syntax.proofs.Walking.{above_child, above_some}
 use Rattle.cv_scene_view.proofs.Tested.{all_first, all_here, all_rest}
-use Rattle.cv_steps_crypto.specs.Sorts.{has_declared_sorts, names_declared}
+use Rattle.cv_steps_laws.specs.crypto.Sorts.{has_declared_sorts, names_declared}
 use Rattle.cv_kernel_crypto.proofs.Declared.{sorts_end, sorts_node}
 use Rattle.cv_kernel_crypto.proofs.sorts.+has_declared_sorts.Goals as goal
 

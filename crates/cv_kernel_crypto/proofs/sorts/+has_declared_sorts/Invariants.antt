@@ -3,7 +3,7 @@ use Rattle.cv_pool.specs.Nodes.{ChildBelow}
 use Rattle.cv_syntax.specs.Declarations.{declarations}
 use Rattle.cv_syntax.specs.PoolTrees.{tree_at}
 use Rattle.cv_syntax.specs.Walks.{above}
-use Rattle.cv_steps_crypto.specs.Sorts.{has_declared_sorts}
+use Rattle.cv_steps_laws.specs.crypto.Sorts.{has_declared_sorts}
 use Rattle.cv_kernel_crypto.proofs.sorts.+has_declared_sorts.Given as goal
 
 abbrev pub decreases-has_declared_sorts : goal.decreases-has_declared_sorts

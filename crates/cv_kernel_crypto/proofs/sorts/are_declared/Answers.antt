@@ -2,7 +2,7 @@ use Rattle.std.proofs.Common.{length, sym, ◌∙◌}
 use Rattle.cv_syntax.specs.Declarations.{declarations}
 use Rattle.cv_syntax.specs.PoolTrees.{tree_at}
 use Rattle.cv_syntax.proofs.Trees.{child_live, empty_at, node_at}
-use Rattle.cv_steps_crypto.specs.Sorts.{are_declared}
+use Rattle.cv_steps_laws.specs.crypto.Sorts.{are_declared}
 use Rattle.cv_kernel_crypto.specs.Roles.{binds_one, is_of}
 use Rattle.cv_kernel_crypto.proofs.Declared.{binders_end, binders_node, one_fails, one_passes}
 use Rattle.cv_kernel_crypto.proofs.sorts.are_declared.Goals as goal

@@ -3,7 +3,7 @@ use Rattle.cv_pool.specs.Nodes.{ChildBelow}
 use Rattle.cv_syntax.specs.Declarations.{declarations}
 use Rattle.cv_syntax.specs.PoolTrees.{tree_at}
 use Rattle.cv_syntax.specs.Walks.{above}
-use Rattle.cv_steps_crypto.specs.Sorts.{are_declared}
+use Rattle.cv_steps_laws.specs.crypto.Sorts.{are_declared}
 use Rattle.cv_kernel_crypto.specs.Roles.{is_of}
 use Rattle.cv_kernel_crypto.proofs.sorts.are_declared.Given as goal
 

@@ -1,7 +1,7 @@
 use Rattle.std.proofs.Common.{ap, sym, ◌∙◌}
 use Rattle.cv_syntax.specs.Declarations.{declarations}
 use Rattle.cv_syntax.specs.PoolTrees.{tree_at}
-use Rattle.cv_steps_crypto.specs.Sorts.{names_declared}
+use Rattle.cv_steps_laws.specs.crypto.Sorts.{names_declared}
 use Rattle.cv_kernel_crypto.proofs.sorts.names_declared.Goals as goal
 
 pub returns-in-Repl : goal.returns-in-Repl

@@ -3,7 +3,7 @@ use Rattle.cv_syntax.specs.Declarations.{declarations}
 use Rattle.cv_syntax.specs.PoolTrees.{tree_at}
 use Rattle.cv_meaning.specs.Queries.{queries_in}
 use Rattle.cv_query_form.proofs.Parts.{queries_past, queries_skip, queries_take, query_below}
-use Rattle.cv_steps_crypto.specs.Secrets.{asks_without_values, some_asks_without_values}
+use Rattle.cv_steps_laws.specs.crypto.Secrets.{asks_without_values, some_asks_without_values}
 use Rattle.cv_kernel_crypto.proofs.Kept.{some_here, some_later}
 use Rattle.cv_kernel_crypto.proofs.testing.some_asks_without_values.Goals as goal
 

@@ -2,7 +2,7 @@ use Rattle.std.proofs.Common.{◌≡◌, Some, drop}
 use Rattle.cv_syntax.specs.Declarations.{declarations}
 use Rattle.cv_syntax.specs.PoolTrees.{tree_at}
 use Rattle.cv_meaning.specs.Queries.{queries_in}
-use Rattle.cv_steps_crypto.specs.Secrets.{some_asks_without_values}
+use Rattle.cv_steps_laws.specs.crypto.Secrets.{some_asks_without_values}
 use Rattle.cv_kernel_crypto.proofs.testing.some_asks_without_values.Given as goal
 
 abbrev pub invariant-decls : goal.invariant-decls

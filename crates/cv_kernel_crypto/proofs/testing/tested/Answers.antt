@@ -2,9 +2,9 @@ use Rattle.std.proofs.Common.{Some}
 use Rattle.cv_syntax.specs.Declarations.{declarations}
 use Rattle.cv_syntax.specs.PoolTrees.{tree_at}
 use Rattle.cv_meaning.specs.Queries.{queries_in}
-use Rattle.cv_steps_crypto.specs.Sorts.{has_declared_sorts}
+use Rattle.cv_steps_laws.specs.crypto.Sorts.{has_declared_sorts}
 use Rattle.cv_scene.specs.Terms.{is_game}
-use Rattle.cv_steps_crypto.specs.Secrets.{some_asks_without_values}
+use Rattle.cv_steps_laws.specs.crypto.Secrets.{some_asks_without_values}
 use Rattle.cv_kernel_crypto.proofs.Kept.{kept_fault}
 use Rattle.cv_kernel_crypto.proofs.testing.tested.Goals as goal
 

@@ -1,6 +1,6 @@
 use Rattle.std.proofs.Common.{Some, ap, ◌∙◌}
 use Rattle.cv_syntax.specs.PoolTrees.{tree_at}
-use Rattle.cv_meaning_contexts.specs.Groups.{function_of}
+use Rattle.cv_meaning.specs.contexts.Groups.{function_of}
 use Rattle.cv_scene.specs.Refusals.{first_in_arguments}
 use Rattle.cv_match.proofs.arguments.use_at.Goals as goal
 

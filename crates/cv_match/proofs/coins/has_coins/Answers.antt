@@ -2,7 +2,7 @@ use Rattle.std.proofs.Common.{Some, ap, map, ◌∙◌}
 use Rattle.cv_syntax_trees.specs.Tree.{Tree}
 use Rattle.cv_syntax.specs.PoolTrees.{tree_at}
 use Rattle.cv_meaning.specs.Correspondences.{typed_names}
-use Rattle.cv_meaning_contexts.specs.Groups.{function_of}
+use Rattle.cv_meaning.specs.contexts.Groups.{function_of}
 use Rattle.cv_scene.specs.Instances.{term_for}
 use Rattle.cv_scene.specs.Refusals.{are_coins}
 use Rattle.cv_match.specs.instances.Matchings.{matching_by}

@@ -1,7 +1,7 @@
 use Rattle.std.proofs.Common.{rules, ap, length, subst, sym, ◌∙◌}
 use Rattle.std.specs.List.{list_any}
 use Rattle.cv_pool.specs.Nodes.{ChildBelow}
-use Rattle.cv_meaning_contexts.specs.Groups.{functions_of}
+use Rattle.cv_meaning.specs.contexts.Groups.{functions_of}
 use Rattle.cv_match_terms.specs.heads.Beginnings.{begins}
 use Rattle.cv_match.proofs.Fitting.{equiv_live}
 use Rattle.cv_match.proofs.matching.search_for.Goals as goal

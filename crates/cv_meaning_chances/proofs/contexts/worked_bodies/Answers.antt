@@ -2,12 +2,12 @@ use Rattle.std.proofs.Common.{refl}
 use Rattle.cv_syntax_trees.specs.Tree.{size}
 use Rattle.cv_meaning.specs.Tapes.{written, sum_below, count, total}
 use Rattle.cv_meaning.specs.Candidates.{tuples_up_to}
-use Rattle.cv_meaning_contexts.specs.Sites.{bounds_above, sites_from}
-use Rattle.cv_meaning_contexts.specs.Frames.{put_at}
-use Rattle.cv_meaning_contexts.specs.BodyTerms.{body_value, body_values}
-use Rattle.cv_meaning_contexts.specs.Finds.{picks_at, picks, picked}
-use Rattle.cv_meaning_contexts.specs.Bodies.{body_answer, branch_answer, reply}
-use Rattle.cv_meaning_contexts.specs.Sides.{body_cells}
+use Rattle.cv_meaning.specs.contexts.Sites.{bounds_above, sites_from}
+use Rattle.cv_meaning.specs.contexts.Frames.{put_at}
+use Rattle.cv_meaning.specs.contexts.BodyTerms.{body_value, body_values}
+use Rattle.cv_meaning.specs.contexts.Finds.{picks_at, picks, picked}
+use Rattle.cv_meaning.specs.contexts.Bodies.{body_answer, branch_answer, reply}
+use Rattle.cv_meaning.specs.contexts.Sides.{body_cells}
 use Rattle.cv_meaning_chances.proofs.contexts.worked_bodies.Goals as goal
 
 pub returns-clause-bound_twice : goal.returns-clause-bound_twice

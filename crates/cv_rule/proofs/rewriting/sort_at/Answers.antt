@@ -1,8 +1,8 @@
 use Rattle.std.proofs.Common.{ap₂, ◌∙◌}
 use Rattle.cv_syntax.specs.Declarations.{declarations}
 use Rattle.cv_syntax.specs.PoolTrees.{tree_at}
-use Rattle.cv_typing_rules.specs.Signature.{Above, sort_of}
-use Rattle.cv_typing_rules.specs.Signature as signature
+use Rattle.cv_scope_rules.specs.typing.Signature.{Above, sort_of}
+use Rattle.cv_scope_rules.specs.typing.Signature as signature
 use Rattle.cv_rule.proofs.rewriting.sort_at.Goals as goal
 
 pub returns : goal.returns

@@ -8,7 +8,7 @@ use Rattle.cv_syntax.proofs.Trees.{child_above, child_live, empty_at, node_at, t
 use Rattle.cv_syntax.proofs.Walking.{above_child, above_some, size_at, size_end}
 use Rattle.cv_edit_places.specs.Parts.{closed, stack_of}
 use Rattle.cv_edit_places.proofs.Stacks.{closed_push}
-use Rattle.cv_steps_wording.specs.Changing.{changed_at}
+use Rattle.cv_costs.specs.wording.Changing.{changed_at}
 use Rattle.cv_rule_birthday.specs.Comparing.{compared, is_one_of}
 use Rattle.cv_rule_birthday.specs.Needs.{made_of_changed, made_of_compared}
 use Rattle.cv_rule_birthday.proofs.Changes.{changed_end, changed_here, changed_later, made_end, made_here, made_later}

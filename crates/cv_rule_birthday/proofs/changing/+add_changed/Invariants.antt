@@ -4,7 +4,7 @@ use Rattle.cv_syntax_trees.specs.Tree.{size}
 use Rattle.cv_syntax.specs.PoolTrees.{tree_at}
 use Rattle.cv_syntax.specs.Walks.{above}
 use Rattle.cv_edit_places.specs.Parts.{AreLive, closed, made_by, stack_of}
-use Rattle.cv_steps_wording.specs.Changing.{changed_at}
+use Rattle.cv_costs.specs.wording.Changing.{changed_at}
 use Rattle.cv_rule_birthday.specs.Comparing.{compared, is_one_of}
 use Rattle.cv_rule_birthday.specs.Needs.{made_of_changed}
 use Rattle.cv_rule_birthday.proofs.changing.+add_changed.Given as goal

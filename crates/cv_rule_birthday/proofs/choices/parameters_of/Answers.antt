@@ -1,5 +1,5 @@
 use Rattle.std.proofs.Common.{sym, ◌∙◌}
-use Rattle.cv_typing_rules.specs.Signature.{variable_in}
+use Rattle.cv_scope_rules.specs.typing.Signature.{variable_in}
 use Rattle.cv_typing.specs.Tables.{arrays_of}
 use Rattle.cv_rule_birthday.proofs.Copies.{none_left, one_more}
 use Rattle.cv_rule_birthday.proofs.choices.parameters_of.Goals as goal

@@ -1,7 +1,7 @@
 use Rattle.std.proofs.Common.{ap, arith, length, refl, subst, sym, ◌∙◌, Some}
 use Rattle.cv_syntax.specs.Declarations.{declarations}
 use Rattle.cv_syntax.specs.PoolTrees.{tree_at}
-use Rattle.cv_typing_rules.specs.Signature.{variable_in}
+use Rattle.cv_scope_rules.specs.typing.Signature.{variable_in}
 use Rattle.cv_scene_view.specs.Kept.{scene_of}
 use Rattle.cv_steps.specs.Costs.{cost_of}
 use Rattle.cv_costs.specs.Collisions.{one_for_pairs}

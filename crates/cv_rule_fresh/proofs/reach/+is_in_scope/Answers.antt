@@ -3,7 +3,7 @@ use Rattle.cv_syntax.specs.PoolTrees.{tree_at}
 use Rattle.cv_syntax.proofs.Trees.{child_above, child_live, empty_at, node_at}
 use Rattle.cv_scope.specs.Held.{names_held}
 use Rattle.cv_scene_view.proofs.Tested.{all_first, all_rest}
-use Rattle.cv_rule_names.specs.Reach.{is_in_scope}
+use Rattle.cv_costs.specs.names.Reach.{is_in_scope}
 use Rattle.cv_rule_fresh.specs.Looks.{reads_here}
 use Rattle.cv_rule_fresh.proofs.Seeing.{scope_end, scope_node, unread}
 use Rattle.cv_rule_fresh.proofs.reach.+is_in_scope.Goals as goal

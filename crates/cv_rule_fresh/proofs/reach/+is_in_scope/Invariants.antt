@@ -4,7 +4,7 @@ use Rattle.cv_syntax.specs.PoolTrees.{tree_at}
 use Rattle.cv_syntax.specs.Walks.{above}
 use Rattle.cv_scope.specs.Held.{names_held}
 use Rattle.cv_scope_rules.specs.Context.{Context, known_at}
-use Rattle.cv_rule_names.specs.Reach.{is_in_scope}
+use Rattle.cv_costs.specs.names.Reach.{is_in_scope}
 use Rattle.cv_rule_fresh.proofs.reach.+is_in_scope.Given as goal
 
 abbrev pub decreases-is_in_scope : goal.decreases-is_in_scope

@@ -1,8 +1,8 @@
 use Rattle.std.proofs.Common.{ap, ap₂, ◌∙◌}
 use Rattle.cv_syntax.specs.Declarations.{declarations}
 use Rattle.cv_directory_sorts.specs.declared.sort.Sort.TheVariants.{BelowParameter}
-use Rattle.cv_typing_rules.specs.Signature as signature
-use Rattle.cv_typing_rules.specs.Signature.{Above, sort_of}
+use Rattle.cv_scope_rules.specs.typing.Signature as signature
+use Rattle.cv_scope_rules.specs.typing.Signature.{Above, sort_of}
 use Rattle.cv_scene.specs.Terms.{is_sort}
 use Rattle.cv_syntax.specs.PoolTrees.{tree_at}
 use Rattle.cv_scene_view.specs.Kept.{scene_of}

@@ -5,7 +5,7 @@ use Rattle.cv_syntax.specs.PoolTrees.{tree_at}
 use Rattle.cv_directory.specs.declared.directory.Directory.{Directory}
 use Rattle.cv_directory.specs.Tables.{seen}
 use Rattle.cv_typing.specs.declared.arrays.Arrays.TheVariants as held
-use Rattle.cv_typing_rules.specs.Signature.{OfGame}
+use Rattle.cv_scope_rules.specs.typing.Signature.{OfGame}
 use Rattle.cv_typing.proofs.Files.{nothing_bound}
 use Rattle.cv_scope_rules.specs.Rules.{Names}
 use Rattle.cv_scope_rules.specs.Phrases.{Inputs, binds_none}

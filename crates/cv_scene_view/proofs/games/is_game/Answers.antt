@@ -3,7 +3,7 @@ use Rattle.std.specs.Prelude.{is_some}
 use Rattle.cv_meaning.specs.Interpretation.{is_constant_of}
 use Rattle.cv_syntax.specs.Declarations.{declarations}
 use Rattle.cv_syntax.specs.PoolTrees.{tree_at}
-use Rattle.cv_typing_rules.specs.Parts.{first_in, game_part}
+use Rattle.cv_scope_rules.specs.typing.Parts.{first_in, game_part}
 use Rattle.cv_scope_rules.specs.Scope.{first_scope_fault}
 use Rattle.cv_scope_rules.specs.Phrases.{Inputs, binds_none, is_phrase}
 use Rattle.cv_scene.specs.Terms.{is_game, is_there, names_anywhere}

@@ -1,6 +1,6 @@
 use Rattle.std.specs.Prelude.{is_some}
 use Rattle.cv_syntax.specs.Declarations.{declarations}
-use Rattle.cv_typing_rules.specs.Signature.{function_in}
+use Rattle.cv_scope_rules.specs.typing.Signature.{function_in}
 use Rattle.cv_scene_view.specs.Kept.{has_index_name, has_variable}
 use Rattle.cv_scene_view.proofs.Tests.{either_first, either_second, either_third}
 use Rattle.cv_scene_view.proofs.games.is_name_there.Goals as goal

@@ -1,6 +1,6 @@
 use Rattle.cv_scene_view.proofs.Whole.{fault_there}
 use Rattle.cv_scene_view.proofs.games.is_scoped.Goals as goal
-use Rattle.cv_typing_rules.proofs.Single.{none_there}
+use Rattle.cv_scope_rules.proofs.typing.Single.{none_there}
 
 pub returns-in-Ok-clause-scoped : goal.returns-in-Ok-clause-scoped
 returns-in-Ok-clause-scoped c = none_there _ c.in-Ok.ensures.none

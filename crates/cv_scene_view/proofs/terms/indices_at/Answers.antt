@@ -4,7 +4,7 @@ use Rattle.cv_syntax.proofs.Trees.{empty_at}
 use Rattle.cv_syntax.proofs.Walking.{size_node}
 use Rattle.cv_typing.specs.Tables.{above_of}
 use Rattle.cv_typing.proofs.Files.{nothing_bound}
-use Rattle.cv_typing_rules.specs.Parts.{nothing_above}
+use Rattle.cv_scope_rules.specs.typing.Parts.{nothing_above}
 use Rattle.cv_scene_view.specs.Kept.{above_behind}
 use Rattle.cv_scene_view.proofs.Above.{above_to, to_behind, to_game, to_here, to_nothing, to_within}
 use Rattle.cv_scene_view.proofs.terms.indices_at.Goals as goal

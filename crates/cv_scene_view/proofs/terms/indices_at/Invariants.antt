@@ -3,7 +3,7 @@ use Rattle.cv_pool.specs.Nodes.{ChildBelow}
 use Rattle.cv_syntax_trees.specs.Tree.{size}
 use Rattle.cv_syntax.specs.PoolTrees.{tree_at}
 use Rattle.cv_syntax.specs.Walks.{above}
-use Rattle.cv_typing_rules.specs.Parts.{nothing_above}
+use Rattle.cv_scope_rules.specs.typing.Parts.{nothing_above}
 use Rattle.cv_typing.specs.Tables.{above_of}
 use Rattle.cv_scene_view.proofs.Above.{above_to}
 use Rattle.cv_scene_view.proofs.terms.indices_at.Given as goal

@@ -1,8 +1,8 @@
 use Rattle.std.proofs.Common.{Some, ap₂, ap, ◌∙◌}
 use Rattle.cv_syntax.specs.Declarations.{declarations}
 use Rattle.cv_syntax.specs.PoolTrees.{tree_at}
-use Rattle.cv_typing_rules.specs.Signature.{Above, boolean, sort_of}
-use Rattle.cv_typing_rules.specs.Signature as signature
+use Rattle.cv_scope_rules.specs.typing.Signature.{Above, boolean, sort_of}
+use Rattle.cv_scope_rules.specs.typing.Signature as signature
 use Rattle.cv_scene.specs.Terms.{is_sort}
 use Rattle.cv_scene_view.proofs.terms.is_bool_at.Goals as goal
 

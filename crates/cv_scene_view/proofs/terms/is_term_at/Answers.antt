@@ -2,10 +2,10 @@ use Rattle.std.proofs.Common.{Some, ap, ap₂, ◌&&◌, ◌∙◌, not}
 use Rattle.std.specs.Prelude.{is_some}
 use Rattle.cv_syntax.specs.Declarations.{declarations}
 use Rattle.cv_syntax.specs.PoolTrees.{tree_at}
-use Rattle.cv_typing_rules.specs.Signature.{Above}
-use Rattle.cv_typing_rules.specs.Signature as signature
-use Rattle.cv_typing_rules.specs.Typing.{first_fault}
-use Rattle.cv_typing_rules.specs.Wants.{AnyTerm}
+use Rattle.cv_scope_rules.specs.typing.Signature.{Above}
+use Rattle.cv_scope_rules.specs.typing.Signature as signature
+use Rattle.cv_scope_rules.specs.typing.Typing.{first_fault}
+use Rattle.cv_scope_rules.specs.typing.Wants.{AnyTerm}
 use Rattle.cv_scope_rules.specs.Phrases.{Term, is_phrase}
 use Rattle.cv_scene.specs.Terms.{Names, above_at, is_there, names_at, signature_in}
 use Rattle.cv_scene_view.specs.Kept.{scene_of}

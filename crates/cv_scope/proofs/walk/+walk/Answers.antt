@@ -7,7 +7,7 @@ use Rattle.cv_syntax.specs.Walks.{above as rank}
 use Rattle.cv_syntax.proofs.Walking.{above_child, above_some, size_at, size_end}
 use Rattle.cv_syntax.proofs.Trees.{child_above, child_live, empty_at, node_at}
 use Rattle.cv_scope.specs.Held.{AreListed, HasLiveBinders, last_held, names_held, state_held}
-use Rattle.cv_syntax_faults.proofs.Steps.{skip_two}
+use Rattle.cv_syntax.proofs.faults.Steps.{skip_two}
 use Rattle.cv_scope.proofs.Going.{found_end, found_parts, held_only, keeps_more, keeps_same, passed_first, passed_second, refused_first, refused_here, released, seen_second, sites_end, sites_second}
 use Rattle.cv_scope.proofs.walk.+walk.Goals as goal
 

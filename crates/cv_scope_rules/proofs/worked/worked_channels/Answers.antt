@@ -1,5 +1,5 @@
 use Rattle.std.proofs.Common.{refl}
-use Rattle.cv_syntax_faults.specs.Walk.{first_fault}
+use Rattle.cv_syntax.specs.faults.Walk.{first_fault}
 use Rattle.cv_syntax_trees.specs.Tree.{same_tree, size}
 use Rattle.cv_directory_sorts.specs.Sites.{first_site, bound_sort}
 use Rattle.cv_directory_sorts.specs.Counting.{count}

@@ -4,7 +4,7 @@ use Rattle.cv_syntax.specs.PoolTrees.{tree_at}
 use Rattle.cv_syntax.specs.Walks.{above as rank}
 use Rattle.cv_directory_sorts.specs.Sites.{binder_sort}
 use Rattle.cv_typing.specs.Tables.{above_of, restored}
-use Rattle.cv_typing_rules.specs.Wants.{all_bound}
+use Rattle.cv_scope_rules.specs.typing.Wants.{all_bound}
 use Rattle.cv_typing.proofs.above.bind_all.Given as goal
 
 abbrev pub invariant-list : goal.invariant-list

@@ -1,8 +1,8 @@
 use Rattle.std.proofs.Common.{[], ◌∷◌, Some, length, ◌∙◌}
 use Rattle.cv_syntax.specs.Declarations.{declarations}
 use Rattle.cv_syntax.specs.PoolTrees.{tree_at}
-use Rattle.cv_typing_rules.specs.Parts.{first_in, game_part}
-use Rattle.cv_typing_rules.proofs.Single.{fault_there, none_there, part_alone}
+use Rattle.cv_scope_rules.specs.typing.Parts.{first_in, game_part}
+use Rattle.cv_scope_rules.proofs.typing.Single.{fault_there, none_there, part_alone}
 use Rattle.cv_typing.proofs.Files.{arguments_live}
 use Rattle.cv_typing.proofs.alone.is_typed_game.Goals as goal
 

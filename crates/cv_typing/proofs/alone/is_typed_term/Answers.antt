@@ -2,9 +2,9 @@ use Rattle.std.proofs.Common.{Some, length}
 use Rattle.cv_syntax.specs.PoolTrees.{tree_at}
 use Rattle.cv_typing.specs.Lookups.{signature_in}
 use Rattle.cv_typing.specs.Tables.{above_of}
-use Rattle.cv_typing_rules.specs.Typing.{first_fault}
-use Rattle.cv_typing_rules.specs.Wants.{AnyTerm}
-use Rattle.cv_typing_rules.proofs.Single.{fault_there, none_there}
+use Rattle.cv_scope_rules.specs.typing.Typing.{first_fault}
+use Rattle.cv_scope_rules.specs.typing.Wants.{AnyTerm}
+use Rattle.cv_scope_rules.proofs.typing.Single.{fault_there, none_there}
 use Rattle.cv_typing.proofs.Files.{arguments_live}
 use Rattle.cv_typing.proofs.alone.is_typed_term.Goals as goal
 

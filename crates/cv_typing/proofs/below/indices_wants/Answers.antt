@@ -1,7 +1,7 @@
 use Rattle.std.proofs.Common.{ap, sym, ◌∙◌}
-use Rattle.cv_typing_rules.specs.Signature.{variable_in}
+use Rattle.cv_scope_rules.specs.typing.Signature.{variable_in}
 use Rattle.cv_typing.specs.Tables.{arrays_of}
-use Rattle.cv_typing_rules.specs.Wants as wants
+use Rattle.cv_scope_rules.specs.typing.Wants as wants
 use Rattle.cv_typing.proofs.Parameters.{parameter_none, parameter_some}
 use Rattle.cv_typing.proofs.below.indices_wants.Goals as goal
 

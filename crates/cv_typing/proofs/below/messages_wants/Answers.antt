@@ -1,7 +1,7 @@
 use Rattle.std.proofs.Common.{ap, sym}
 use Rattle.cv_syntax.specs.PoolTrees.{tree_at}
-use Rattle.cv_typing_rules.specs.Wants as wants
-use Rattle.cv_typing_rules.proofs.Counts.{names_end, names_other, names_step}
+use Rattle.cv_scope_rules.specs.typing.Wants as wants
+use Rattle.cv_scope_rules.proofs.typing.Counts.{names_end, names_other, names_step}
 use Rattle.cv_syntax.proofs.Trees.{empty_at, node_at}
 use Rattle.cv_typing.proofs.below.messages_wants.Goals as goal
 

@@ -1,7 +1,7 @@
 use Rattle.std.proofs.Common.{ap, sym, ◌∙◌}
 use Rattle.std.specs.Prelude.{option_map}
 use Rattle.cv_typing.specs.Lookups.{function_at}
-use Rattle.cv_typing_rules.specs.Wants as wants
+use Rattle.cv_scope_rules.specs.typing.Wants as wants
 use Rattle.cv_typing.proofs.Bridges.{function_live, function_same}
 use Rattle.cv_typing.proofs.below.wants_arguments.Goals as goal
 

@@ -1,7 +1,7 @@
 use Rattle.std.proofs.Common.{ap, sym, ◌∙◌}
 use Rattle.cv_syntax.specs.PoolTrees.{tree_at}
-use Rattle.cv_typing_rules.specs.Signature.{names_in}
-use Rattle.cv_typing_rules.specs.Wants as wants
+use Rattle.cv_scope_rules.specs.typing.Signature.{names_in}
+use Rattle.cv_scope_rules.specs.typing.Wants as wants
 use Rattle.cv_typing.proofs.Bridges.{event_same}
 use Rattle.cv_typing.proofs.below.wants_of_event.Goals as goal
 

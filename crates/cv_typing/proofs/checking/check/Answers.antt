@@ -1,7 +1,7 @@
 use Rattle.std.proofs.Common.{Some}
 use Rattle.cv_syntax.specs.Declarations.{declarations}
 use Rattle.cv_syntax.specs.PoolTrees.{tree_at}
-use Rattle.cv_typing_rules.specs.Parts.{file_parts}
+use Rattle.cv_scope_rules.specs.typing.Parts.{file_parts}
 use Rattle.cv_typing.proofs.Files.{first_refusals}
 use Rattle.cv_typing.proofs.Sides.{file_typed}
 use Rattle.cv_typing.proofs.checking.check.Goals as goal

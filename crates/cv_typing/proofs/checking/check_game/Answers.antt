@@ -2,7 +2,7 @@ use Rattle.std.proofs.Common.{[], ◌∷◌, Some, Ok, Err, length}
 use Rattle.std.proofs.lemmas.Result.{err_from_is_err_and}
 use Rattle.cv_syntax.specs.Declarations.{declarations}
 use Rattle.cv_syntax.specs.PoolTrees.{tree_at}
-use Rattle.cv_typing_rules.specs.Parts.{game_part}
+use Rattle.cv_scope_rules.specs.typing.Parts.{game_part}
 use Rattle.cv_typing.proofs.Files.{arguments_live, first_refusals, game_typed}
 use Rattle.cv_typing.proofs.checking.check_game.Goals as goal
 

@@ -3,8 +3,8 @@ use Rattle.std.specs.Option.{option_copied}
 use Rattle.std.proofs.lemmas.Result.{err_from_is_err_and}
 use Rattle.cv_syntax.specs.Declarations.{declarations, declared}
 use Rattle.cv_syntax.specs.PoolTrees.{tree_at}
-use Rattle.cv_typing_rules.specs.Parts.{declaration_parts, first_in}
-use Rattle.cv_typing_rules.specs.Refusals.{IsRefusalOf, parts_size}
+use Rattle.cv_scope_rules.specs.typing.Parts.{declaration_parts, first_in}
+use Rattle.cv_scope_rules.specs.typing.Refusals.{IsRefusalOf, parts_size}
 use Rattle.cv_typing.proofs.Bodies.{behind_typed, refused_before, size_append}
 use Rattle.cv_typing.proofs.Files.{arguments_live}
 use Rattle.cv_typing.proofs.Sides.{file_end, file_start, file_step, live_at, rest_parts}

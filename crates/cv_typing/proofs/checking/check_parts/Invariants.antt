@@ -1,8 +1,8 @@
 use Rattle.std.proofs.Common.{◌≡◌, ◌+◌, Some}
 use Rattle.cv_syntax.specs.Declarations.{declarations}
 use Rattle.cv_syntax.specs.PoolTrees.{tree_at}
-use Rattle.cv_typing_rules.specs.Parts.{file_parts, first_in}
-use Rattle.cv_typing_rules.specs.Refusals.{parts_size}
+use Rattle.cv_scope_rules.specs.typing.Parts.{file_parts, first_in}
+use Rattle.cv_scope_rules.specs.typing.Refusals.{parts_size}
 use Rattle.cv_typing.proofs.Sides.{rest_parts}
 use Rattle.cv_typing.proofs.checking.check_parts.Given as goal
 

@@ -3,12 +3,12 @@ use Rattle.std.proofs.lemmas.Result.{err_from_is_err_and}
 use Rattle.cv_syntax.specs.Declarations.{declarations}
 use Rattle.cv_syntax_trees.specs.Tree.{size}
 use Rattle.cv_syntax.specs.PoolTrees.{tree_at}
-use Rattle.cv_typing_rules.specs.declared.form.Form.TheVariants.{InProcess}
-use Rattle.cv_typing_rules.specs.Parts.{game_part}
-use Rattle.cv_typing_rules.specs.Signature.{Above, OfGame}
+use Rattle.cv_scope_rules.specs.declared.typing.form.Form.TheVariants.{InProcess}
+use Rattle.cv_scope_rules.specs.typing.Parts.{game_part}
+use Rattle.cv_scope_rules.specs.typing.Signature.{Above, OfGame}
 use Rattle.cv_directory_sorts.specs.Sites.{SitesView}
-use Rattle.cv_typing_rules.specs.Typing.{first_fault}
-use Rattle.cv_typing_rules.specs.Wants.{Run}
+use Rattle.cv_scope_rules.specs.typing.Typing.{first_fault}
+use Rattle.cv_scope_rules.specs.typing.Wants.{Run}
 use Rattle.cv_typing.proofs.Files.{nothing_bound, part_refused, part_step, parts_end}
 use Rattle.cv_typing.proofs.checking.check_process.Goals as goal
 

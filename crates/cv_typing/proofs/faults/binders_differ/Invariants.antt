@@ -4,7 +4,7 @@ use Rattle.cv_syntax.specs.PoolTrees.{tree_at}
 use Rattle.cv_syntax.specs.Walks.{above}
 use Rattle.cv_directory_sorts.specs.Sites.{binder_sort}
 use Rattle.cv_typing.specs.Tables.{arrays_of}
-use Rattle.cv_typing_rules.specs.Typing.{binders_differ}
+use Rattle.cv_scope_rules.specs.typing.Typing.{binders_differ}
 use Rattle.cv_typing.proofs.faults.binders_differ.Given as goal
 
 abbrev pub invariant-list : goal.invariant-list

@@ -1,6 +1,6 @@
 use Rattle.std.proofs.Common.{not, ap, sym, ◌∙◌}
 use Rattle.cv_typing.specs.Lookups.{signature_in}
-use Rattle.cv_typing_rules.specs.Typing as typing
+use Rattle.cv_scope_rules.specs.typing.Typing as typing
 use Rattle.cv_typing.proofs.Bridges.{fixed_same}
 use Rattle.cv_typing.proofs.faults.is_unfixed.Goals as goal
 

@@ -1,7 +1,7 @@
 use Rattle.std.proofs.Common.{Bool, Option, Some, None, ap₂, sym, ◌∙◌}
 use Rattle.std.specs.Prelude.{if◌then◌else◌}
-use Rattle.cv_typing_rules.specs.declared.fault.Fault.{Fault}
-use Rattle.cv_typing_rules.specs.declared.fault.Fault.TheVariants.{IndexAsMessage, NotFixed}
+use Rattle.cv_scope_rules.specs.declared.typing.fault.Fault.{Fault}
+use Rattle.cv_scope_rules.specs.declared.typing.fault.Fault.TheVariants.{IndexAsMessage, NotFixed}
 use Rattle.cv_typing.proofs.faults.value_fault.Goals as goal
 
 abbrev chosen : Bool → Bool → Option Fault

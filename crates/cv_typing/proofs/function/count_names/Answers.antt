@@ -1,7 +1,7 @@
 use Rattle.std.proofs.Common.{length, arith, ap}
 use Rattle.cv_syntax.specs.PoolTrees.{tree_at}
 use Rattle.cv_syntax.proofs.Walking.{above_child, above_some}
-use Rattle.cv_typing_rules.proofs.Counts.{names_end, names_other, names_step}
+use Rattle.cv_scope_rules.proofs.typing.Counts.{names_end, names_other, names_step}
 use Rattle.cv_syntax.proofs.Trees.{child_live, empty_at, node_at}
 use Rattle.cv_typing.proofs.function.count_names.Goals as goal
 

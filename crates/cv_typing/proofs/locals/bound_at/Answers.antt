@@ -1,5 +1,5 @@
 use Rattle.std.proofs.Common.{ap, sym}
-use Rattle.cv_typing_rules.specs.Parts.{bound_at}
+use Rattle.cv_scope_rules.specs.typing.Parts.{bound_at}
 use Rattle.cv_syntax.proofs.Trees.{empty_at}
 use Rattle.cv_typing.proofs.locals.bound_at.Goals as goal
 

@@ -4,7 +4,7 @@ use Rattle.cv_syntax.specs.Declarations.{declarations}
 use Rattle.cv_syntax_trees.specs.Tree.{size}
 use Rattle.cv_syntax.specs.PoolTrees.{tree_at}
 use Rattle.cv_syntax.proofs.Walking.{above_child, above_some}
-use Rattle.cv_typing_rules.specs.Parts.{in_function, names_of}
+use Rattle.cv_scope_rules.specs.typing.Parts.{in_function, names_of}
 use Rattle.cv_typing.specs.Tables.{arrays_of}
 use Rattle.cv_typing.proofs.Bodies.{bodies_end, bodies_next, bodies_refused, bodies_size, body_same, in_another, with_arrays}
 use Rattle.cv_syntax.proofs.Trees.{child_live, empty_at, node_at}

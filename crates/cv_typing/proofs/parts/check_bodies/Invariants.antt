@@ -4,8 +4,8 @@ use Rattle.cv_syntax.specs.Declarations.{declarations}
 use Rattle.cv_syntax_trees.specs.Tree.{Tree}
 use Rattle.cv_syntax.specs.PoolTrees.{tree_at}
 use Rattle.cv_syntax.specs.Walks.{above}
-use Rattle.cv_typing_rules.specs.Parts.{body_parts, first_in, in_function}
-use Rattle.cv_typing_rules.specs.Refusals.{parts_size}
+use Rattle.cv_scope_rules.specs.typing.Parts.{body_parts, first_in, in_function}
+use Rattle.cv_scope_rules.specs.typing.Refusals.{parts_size}
 use Rattle.cv_typing.specs.Tables.{arrays_of}
 use Rattle.cv_typing.proofs.parts.check_bodies.Given as goal
 

@@ -1,6 +1,6 @@
 use Rattle.std.proofs.Common.{ap}
 use Rattle.cv_syntax.specs.Declarations.{declarations, declared}
-use Rattle.cv_typing_rules.specs.Parts.{declaration_parts}
+use Rattle.cv_scope_rules.specs.typing.Parts.{declaration_parts}
 use Rattle.cv_typing.proofs.Bodies.{named_checked}
 use Rattle.cv_typing.proofs.parts.check_declaration.Goals as goal
 

@@ -2,10 +2,10 @@ use Rattle.std.proofs.Common.{Some, ap, ap₂, sym, ◌∙◌}
 use Rattle.cv_syntax.specs.Declarations.{declarations}
 use Rattle.cv_syntax_trees.specs.Tree.{Tree, first, second}
 use Rattle.cv_syntax.specs.PoolTrees.{tree_at}
-use Rattle.cv_typing_rules.specs.Parts.{equation_part, local_names}
-use Rattle.cv_typing_rules.specs.Signature.{Above, OfNothing, boolean}
-use Rattle.cv_typing_rules.specs.Typing.{first_fault}
-use Rattle.cv_typing_rules.specs.Wants.{Of}
+use Rattle.cv_scope_rules.specs.typing.Parts.{equation_part, local_names}
+use Rattle.cv_scope_rules.specs.typing.Signature.{Above, OfNothing, boolean}
+use Rattle.cv_scope_rules.specs.typing.Typing.{first_fault}
+use Rattle.cv_scope_rules.specs.typing.Wants.{Of}
 use Rattle.cv_typing.proofs.Bodies.{checked_at}
 use Rattle.cv_typing.proofs.parts.check_equation.Goals as goal
 

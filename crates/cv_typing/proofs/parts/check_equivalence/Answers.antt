@@ -2,8 +2,8 @@ use Rattle.std.proofs.Common.{◌++◌, Some, ap, ◌∙◌, arith}
 use Rattle.std.proofs.lemmas.Result.{err_from_is_err_and}
 use Rattle.cv_syntax.specs.Declarations.{declarations}
 use Rattle.cv_syntax.specs.PoolTrees.{tree_at}
-use Rattle.cv_typing_rules.specs.Parts.{body_parts, first_in, equivalence_parts}
-use Rattle.cv_typing_rules.specs.Refusals.{parts_size}
+use Rattle.cv_scope_rules.specs.typing.Parts.{body_parts, first_in, equivalence_parts}
+use Rattle.cv_scope_rules.specs.typing.Refusals.{parts_size}
 use Rattle.cv_typing.specs.Tables.{arrays_of}
 use Rattle.cv_typing.proofs.Bodies.{refused_before, size_append, then_checked}
 use Rattle.cv_typing.proofs.Sides.{checked_as, equivalence_left, equivalence_whole, right_parts}

@@ -2,10 +2,10 @@ use Rattle.std.proofs.Common.{Some, refl, ap, sym, ◌∙◌}
 use Rattle.cv_syntax.specs.Declarations.{declarations}
 use Rattle.cv_syntax_trees.specs.Tree.{first}
 use Rattle.cv_syntax.specs.PoolTrees.{tree_at}
-use Rattle.cv_typing_rules.specs.Parts.{local_names, query_part}
-use Rattle.cv_typing_rules.specs.Signature.{Above, OfNothing}
-use Rattle.cv_typing_rules.specs.Typing.{first_fault}
-use Rattle.cv_typing_rules.specs.Wants.{Correspondence}
+use Rattle.cv_scope_rules.specs.typing.Parts.{local_names, query_part}
+use Rattle.cv_scope_rules.specs.typing.Signature.{Above, OfNothing}
+use Rattle.cv_scope_rules.specs.typing.Typing.{first_fault}
+use Rattle.cv_scope_rules.specs.typing.Wants.{Correspondence}
 use Rattle.cv_typing.proofs.Bodies.{checked_at}
 use Rattle.cv_typing.proofs.parts.check_query.Goals as goal
 

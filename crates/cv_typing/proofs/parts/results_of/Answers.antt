@@ -2,8 +2,8 @@ use Rattle.std.proofs.Common.{length, ap, ap₂, ◌∙◌}
 use Rattle.cv_syntax_trees.specs.Tree.{Tree}
 use Rattle.cv_syntax.specs.PoolTrees.{tree_at}
 use Rattle.cv_typing.specs.Lookups.{signature_in}
-use Rattle.cv_typing_rules.specs.Parts.{names_of}
-use Rattle.cv_typing_rules.specs.Signature.{Above, sort_of}
+use Rattle.cv_scope_rules.specs.typing.Parts.{names_of}
+use Rattle.cv_scope_rules.specs.typing.Signature.{Above, sort_of}
 use Rattle.cv_typing.proofs.Bodies.{results_push, results_start, results_whole}
 use Rattle.cv_syntax.proofs.Trees.{child_live, empty_at, node_at}
 use Rattle.cv_typing.proofs.parts.results_of.Goals as goal

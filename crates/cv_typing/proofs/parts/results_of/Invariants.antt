@@ -3,7 +3,7 @@ use Rattle.cv_pool.specs.Nodes.{ChildBelow}
 use Rattle.cv_syntax.specs.PoolTrees.{tree_at}
 use Rattle.cv_syntax.specs.Walks.{above}
 use Rattle.cv_typing.specs.Lookups.{signature_in}
-use Rattle.cv_typing_rules.specs.Parts.{results}
+use Rattle.cv_scope_rules.specs.typing.Parts.{results}
 use Rattle.cv_typing.proofs.parts.results_of.Given as goal
 
 abbrev pub invariant-list : goal.invariant-list

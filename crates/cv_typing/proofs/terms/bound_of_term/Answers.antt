@@ -1,5 +1,5 @@
 use Rattle.std.proofs.Common.{ap, sym, ◌∙◌}
-use Rattle.cv_typing_rules.specs.Signature as signature
+use Rattle.cv_scope_rules.specs.typing.Signature as signature
 use Rattle.cv_typing.specs.Tables.{above_of}
 use Rattle.cv_syntax.proofs.Trees.{empty_at}
 use Rattle.cv_typing.proofs.terms.bound_of_term.Goals as goal

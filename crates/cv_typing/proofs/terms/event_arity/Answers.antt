@@ -1,7 +1,7 @@
 use Rattle.std.proofs.Common.{length, ap, sym, subst, ◌∙◌}
 use Rattle.cv_syntax.specs.PoolTrees.{tree_at}
 use Rattle.cv_pool.specs.Nodes.{ChildBelow}
-use Rattle.cv_typing_rules.specs.Signature.{names_in}
+use Rattle.cv_scope_rules.specs.typing.Signature.{names_in}
 use Rattle.cv_typing.proofs.Bridges.{event_live, event_same}
 use Rattle.cv_typing.proofs.terms.event_arity.Goals as goal
 

@@ -1,7 +1,7 @@
 use Rattle.std.proofs.Common.{length, ap, sym, ◌∙◌, Some}
 use Rattle.std.specs.Prelude.{option_map}
 use Rattle.cv_typing.specs.Lookups.{function_at}
-use Rattle.cv_typing_rules.specs.Signature.{Function}
+use Rattle.cv_scope_rules.specs.typing.Signature.{Function}
 use Rattle.cv_typing.proofs.Bridges.{function_live, function_same}
 use Rattle.cv_typing.proofs.terms.function_arity.Goals as goal
 

@@ -2,7 +2,7 @@ use Rattle.std.proofs.Common.{ap, sym, ◌∙◌}
 use Rattle.std.specs.Prelude.{option_map}
 use Rattle.cv_directory_sorts.specs.declared.sort.Sort.TheVariants.{OfType}
 use Rattle.cv_typing.specs.Lookups.{function_at}
-use Rattle.cv_typing_rules.specs.Signature.{Function}
+use Rattle.cv_scope_rules.specs.typing.Signature.{Function}
 use Rattle.cv_typing.proofs.Bridges.{function_same}
 use Rattle.cv_typing.proofs.terms.function_sort.Goals as goal
 

@@ -6,8 +6,8 @@ use Rattle.cv_directory_sorts.specs.declared.sort.Sort.TheVariants.{BelowParamet
 use Rattle.cv_typing.specs.Lookups.{signature_in}
 use Rattle.cv_directory_sorts.specs.Sites.{first_of}
 use Rattle.cv_typing.specs.Tables.{above_of, arrays_of}
-use Rattle.cv_typing_rules.specs.Signature.{index_in}
-use Rattle.cv_typing_rules.proofs.Leaves.{leaf_declared}
+use Rattle.cv_scope_rules.specs.typing.Signature.{index_in}
+use Rattle.cv_scope_rules.proofs.typing.Leaves.{leaf_declared}
 use Rattle.cv_typing.proofs.terms.leaf_sort.Goals as goal
 
 pub returns-in-Some-function_sort : goal.returns-in-Some-function_sort

@@ -1,7 +1,7 @@
 use Rattle.std.proofs.Common.{ap, sym, ◌∙◌}
 use Rattle.cv_syntax.specs.PoolTrees.{tree_at}
 use Rattle.cv_typing.specs.Lookups.{signature_in}
-use Rattle.cv_typing_rules.specs.Signature as signature
+use Rattle.cv_scope_rules.specs.typing.Signature as signature
 use Rattle.cv_typing.specs.Tables.{above_of}
 use Rattle.cv_typing.proofs.terms.sort_of_head.Goals as goal
 

@@ -5,9 +5,9 @@ use Rattle.cv_syntax.specs.Walks.{above as rank}
 use Rattle.cv_syntax.proofs.Walking.{above_child, above_some, size_at, size_end}
 use Rattle.cv_typing.specs.Lookups.{signature_in, want_of}
 use Rattle.cv_typing.specs.Tables.{above_of, restored}
-use Rattle.cv_typing_rules.specs.Wants.{with_names}
-use Rattle.cv_typing_rules.proofs.Steps.{fault_end, fault_parts, names_bound, none_bound, refused_as, refused_first, refused_here}
-use Rattle.cv_syntax_faults.proofs.Steps.{skip_two}
+use Rattle.cv_scope_rules.specs.typing.Wants.{with_names}
+use Rattle.cv_scope_rules.proofs.typing.Steps.{fault_end, fault_parts, names_bound, none_bound, refused_as, refused_first, refused_here}
+use Rattle.cv_syntax.proofs.faults.Steps.{skip_two}
 use Rattle.cv_syntax.proofs.Trees.{child_above, child_live, empty_at, node_at}
 use Rattle.cv_typing.proofs.walk.+walk.Goals as goal
 

@@ -5,7 +5,7 @@ use Rattle.cv_syntax.specs.PoolTrees.{tree_at}
 use Rattle.cv_syntax.specs.Walks.{above as rank}
 use Rattle.cv_typing.specs.Lookups.{IsLiveWant, signature_in, want_of}
 use Rattle.cv_typing.specs.Tables.{above_of}
-use Rattle.cv_typing_rules.specs.Typing.{first_fault}
+use Rattle.cv_scope_rules.specs.typing.Typing.{first_fault}
 use Rattle.cv_typing.proofs.walk.+walk.Given as goal
 
 abbrev pub decreases-walk : goal.decreases-walk

@@ -2,7 +2,7 @@ use Rattle.std.proofs.Common.{ap, ◌∙◌}
 use Rattle.std.specs.Prelude.{is_some}
 use Rattle.cv_syntax.specs.Declarations.{declarations}
 use Rattle.cv_directory_sorts.specs.declared.sort.Sort.TheVariants.{OfType}
-use Rattle.cv_typing_rules.specs.Signature.{Function, function_in}
+use Rattle.cv_scope_rules.specs.typing.Signature.{Function, function_in}
 use Rattle.cv_derive_lines.proofs.terms.typing.is_function.Goals as goal
 use Rattle.cv_lists.proofs.Options.{is_some_map}
 

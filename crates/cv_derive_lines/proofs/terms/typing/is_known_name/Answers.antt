@@ -1,6 +1,6 @@
 use Rattle.std.specs.Prelude.{is_some}
 use Rattle.cv_syntax.specs.Declarations.{declarations}
-use Rattle.cv_typing_rules.specs.Signature.{function_in, variable_in}
+use Rattle.cv_scope_rules.specs.typing.Signature.{function_in, variable_in}
 use Rattle.cv_typing.specs.Tables.{above_of, arrays_of}
 use Rattle.cv_derive_lines.proofs.terms.typing.is_known_name.Goals as goal
 use Rattle.cv_scene_view.proofs.Tests.{either_first, either_second, either_third}

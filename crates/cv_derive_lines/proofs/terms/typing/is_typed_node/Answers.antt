@@ -4,7 +4,7 @@ use Rattle.cv_syntax.specs.Declarations.{declarations}
 use Rattle.cv_syntax.specs.PoolTrees.{tree_at}
 use Rattle.cv_typing.specs.Lookups.{signature_in, want_of}
 use Rattle.cv_typing.specs.Tables.{above_of}
-use Rattle.cv_typing_rules.specs.Typing.{fault_of}
+use Rattle.cv_scope_rules.specs.typing.Typing.{fault_of}
 use Rattle.cv_derive_lines.specs.terms.Typed.{is_known_head, names_of}
 use Rattle.cv_derive_lines.proofs.terms.Typed.{no_fault, then_second}
 use Rattle.cv_derive_lines.proofs.terms.typing.is_typed_node.Goals as goal

@@ -2,7 +2,7 @@ use Rattle.std.proofs.Common.{◌≡◌, length}
 use Rattle.cv_pool.specs.Nodes.{ChildBelow}
 use Rattle.cv_syntax.specs.PoolTrees.{tree_at}
 use Rattle.cv_syntax.specs.Walks.{above}
-use Rattle.cv_meaning_contexts.specs.Made as made
+use Rattle.cv_meaning.specs.contexts.Made as made
 use Rattle.cv_group.proofs.bodies.cells.has_cell_at.Given as goal
 
 abbrev pub invariant-cells : goal.invariant-cells

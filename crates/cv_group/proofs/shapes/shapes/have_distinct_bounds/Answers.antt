@@ -1,14 +1,14 @@
 use Rattle.std.proofs.Common.{◌≡◌, ℕ, true, false, length, ap, sym, ◌∙◌}
 use Rattle.cv_syntax.specs.PoolTrees.{tree_at}
 use Rattle.cv_syntax.proofs.Trees.{child_live, empty_at, node_at}
-use Rattle.cv_group_rules.specs.Rules as rule
+use Rattle.cv_group.specs.rules.Rules as rule
 use Rattle.cv_group.proofs.shapes.Steps as step
 use Rattle.cv_group.proofs.shapes.Taking as taking
 use Rattle.cv_group.specs.shapes.Shapes.{are_taken, without}
 use Rattle.std.proofs.Common.{rules}
 use Rattle.cv_syntax.specs.NameSets.{is_in, is_outside}
 use Rattle.cv_syntax_trees.specs.Tree.{first}
-use Rattle.cv_meaning_contexts.specs.Groups.{bound_of}
+use Rattle.cv_meaning.specs.contexts.Groups.{bound_of}
 use Rattle.std.proofs.Math.Path.{fun_ext}
 use Rattle.std.specs.Prelude.{not}
 use Rattle.cv_group.proofs.shapes.shapes.have_distinct_bounds.Goals as goal

@@ -1,6 +1,6 @@
 use Rattle.std.proofs.Common.{ap, sym}
 use Rattle.cv_syntax.proofs.Trees.{empty_at}
-use Rattle.cv_meaning_contexts.specs.Inlined as bodies
+use Rattle.cv_meaning.specs.contexts.Inlined as bodies
 use Rattle.cv_inline.specs.terms.Scopes.{scope_in}
 use Rattle.cv_inline.proofs.terms.scope.call_in.Goals as goal
 

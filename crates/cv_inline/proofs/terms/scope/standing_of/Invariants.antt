@@ -1,6 +1,6 @@
 use Rattle.std.proofs.Common.{◌≡◌, ◌≤◌, length, take}
 use Rattle.cv_syntax_trees.specs.Tree.{Tree}
-use Rattle.cv_meaning_contexts.specs.Inlined as bodies
+use Rattle.cv_meaning.specs.contexts.Inlined as bodies
 use Rattle.cv_inline.specs.terms.Scopes.{scope_in}
 use Rattle.cv_inline.proofs.terms.scope.standing_of.Given as goal
 

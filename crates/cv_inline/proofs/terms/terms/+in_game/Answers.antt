@@ -4,8 +4,8 @@ use Rattle.cv_syntax_trees.specs.declared.head.Head.TheVariants.{Eq}
 use Rattle.cv_syntax.specs.Postorder.{joined}
 use Rattle.cv_syntax.specs.PoolTrees.{tree_at}
 use Rattle.cv_syntax.proofs.Trees.{empty_at, node_at}
-use Rattle.cv_meaning_contexts.specs.Inlined as bodies
-use Rattle.cv_meaning_contexts.specs.Inlined.{Caller, Drawn, Scope, array_in_game, call_in, index_terms}
+use Rattle.cv_meaning.specs.contexts.Inlined as bodies
+use Rattle.cv_meaning.specs.contexts.Inlined.{Caller, Drawn, Scope, array_in_game, call_in, index_terms}
 use Rattle.cv_inline.specs.terms.Callers.{caller_in}
 use Rattle.cv_inline.specs.terms.Drawings.{drawn_in}
 use Rattle.cv_inline.specs.terms.Scopes.{called_at, pair_by, scope_in}

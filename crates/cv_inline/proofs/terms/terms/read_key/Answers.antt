@@ -4,7 +4,7 @@ use Rattle.cv_syntax_trees.specs.declared.head.Head.TheVariants.{Read}
 use Rattle.cv_syntax.specs.Postorder.{joined}
 use Rattle.cv_syntax_trees.specs.Tree.{Empty}
 use Rattle.cv_syntax.specs.PoolTrees.{tree_at}
-use Rattle.cv_meaning_contexts.specs.Inlined.{read_at}
+use Rattle.cv_meaning.specs.contexts.Inlined.{read_at}
 use Rattle.cv_inline.specs.terms.Stacks.{stack}
 use Rattle.cv_inline.proofs.terms.InGame.{read_at_Node}
 use Rattle.cv_inline.proofs.terms.terms.read_key.Goals as goal

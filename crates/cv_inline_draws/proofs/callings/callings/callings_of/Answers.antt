@@ -1,7 +1,7 @@
 use Rattle.std.proofs.Common.{◌≡◌, ◌++◌, Some, ap, arith, map, ◌∙◌}
 use Rattle.cv_syntax_trees.specs.Tree.{second, size}
 use Rattle.cv_syntax.specs.PoolTrees.{tree_at}
-use Rattle.cv_meaning_contexts.specs.Groups.{Right, functions_of, side_group}
+use Rattle.cv_meaning.specs.contexts.Groups.{Right, functions_of, side_group}
 use Rattle.cv_inline_sites.specs.listing.Callings.{callings_in}
 use Rattle.cv_inline_draws.specs.callings.RightFunctions.{function_in}
 use Rattle.cv_inline_draws.proofs.callings.SiteLists.{listed_keys, second_small, site_is, sites_end, sites_more}

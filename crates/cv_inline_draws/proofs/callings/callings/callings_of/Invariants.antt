@@ -1,6 +1,6 @@
 use Rattle.std.proofs.Common.{◌≡◌, ◌++◌, All, Some, drop}
 use Rattle.cv_syntax.specs.PoolTrees.{tree_at}
-use Rattle.cv_meaning_contexts.specs.Groups.{Right, side_group}
+use Rattle.cv_meaning.specs.contexts.Groups.{Right, side_group}
 use Rattle.cv_inline.specs.NextGame.{callings_from}
 use Rattle.cv_inline_sites.specs.listing.Callings.{callings_in}
 use Rattle.cv_inline_draws.specs.callings.Sites.{IsLiveSite}

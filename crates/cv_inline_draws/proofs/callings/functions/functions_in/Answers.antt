@@ -2,7 +2,7 @@ use Rattle.std.proofs.Common.{ap, arith, length, map}
 use Rattle.cv_syntax.specs.PoolTrees.{tree_at}
 use Rattle.cv_syntax.proofs.Trees.{child_live, empty_at, node_at}
 use Rattle.cv_syntax.proofs.Walking.{size_at}
-use Rattle.cv_meaning_contexts.specs.Groups.{functions_of}
+use Rattle.cv_meaning.specs.contexts.Groups.{functions_of}
 use Rattle.cv_inline_draws.specs.callings.RightFunctions.{function_in}
 use Rattle.cv_inline_draws.proofs.callings.Lists.{none_left}
 use Rattle.cv_inline_draws.proofs.callings.RightSides.{function_more, live_function, live_push, nodes_behind}

@@ -1,5 +1,5 @@
 use Rattle.std.proofs.Common.{◌≡◌, ◌+◌, ◌-◌, ◌∙◌, ap, arith, drop, length}
-use Rattle.cv_meaning_contexts.specs.Inlined.{Drawn}
+use Rattle.cv_meaning.specs.contexts.Inlined.{Drawn}
 use Rattle.cv_inline.specs.terms.Drawings.{drawn_in}
 use Rattle.cv_inline_draws.specs.drawing.Tables.{with_labels}
 use Rattle.cv_inline_draws.proofs.drawing.Filled.{least_is_one, labels_begin, labels_more}

@@ -2,7 +2,7 @@ use Rattle.std.proofs.Common.{◌≡◌, ◌≤◌, ◌++◌, ℕ, List, All}
 use Rattle.std.specs.Prelude.{flat_map}
 use Rattle.cv_syntax.specs.PoolTrees.{tree_at}
 use Rattle.cv_syntax.specs.Walks.{above}
-use Rattle.cv_meaning_contexts.specs.Inlined.{Caller}
+use Rattle.cv_meaning.specs.contexts.Inlined.{Caller}
 use Rattle.cv_inline.specs.Draws.{branches_draws}
 use Rattle.cv_inline_draws.specs.sites.Parts.{draws_at}
 use Rattle.cv_inline_sites.specs.listing.Subtrees.{IsBelow, IsWithin}

@@ -1,6 +1,6 @@
 use Rattle.std.proofs.Common.{map}
 use Rattle.cv_syntax.specs.PoolTrees.{tree_at}
-use Rattle.cv_meaning_contexts.specs.Inlined.{Caller}
+use Rattle.cv_meaning.specs.contexts.Inlined.{Caller}
 use Rattle.cv_inline.specs.Draws.{index_draws}
 use Rattle.cv_inline_sites.specs.listing.Listed.{draw_in}
 use Rattle.cv_inline_draws.proofs.sites.Gathering.{callers_step}

@@ -2,7 +2,7 @@ use Rattle.std.proofs.Common.{◌≡◌, ℕ, ◌∷◌, List, ap, map}
 use Rattle.std.proofs.lemmas.Result.{IfOk-weaker}
 use Rattle.cv_syntax_trees.specs.Tree.{Tree}
 use Rattle.cv_syntax.specs.PoolTrees.{tree_at}
-use Rattle.cv_meaning_contexts.specs.Inlined.{Caller, Drawn, Scope, all_equal, in_game, index_terms, moved}
+use Rattle.cv_meaning.specs.contexts.Inlined.{Caller, Drawn, Scope, all_equal, in_game, index_terms, moved}
 use Rattle.cv_inline.specs.terms.Callers.{caller_in}
 use Rattle.cv_inline.specs.terms.Drawings.{drawn_in}
 use Rattle.cv_inline.specs.terms.Scopes.{scope_in}

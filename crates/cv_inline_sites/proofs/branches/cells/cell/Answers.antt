@@ -1,6 +1,6 @@
 use Rattle.std.proofs.Common.{◌∙◌, ap, sym}
 use Rattle.cv_syntax.proofs.Trees.{empty_at}
-use Rattle.cv_meaning_contexts.specs.Inlined.{Caller, Drawn, Scope, cell_in_game, in_game, index_terms}
+use Rattle.cv_meaning.specs.contexts.Inlined.{Caller, Drawn, Scope, cell_in_game, in_game, index_terms}
 use Rattle.cv_inline.specs.terms.Callers.{caller_in}
 use Rattle.cv_inline.specs.terms.Drawings.{drawn_in}
 use Rattle.cv_inline.specs.terms.Scopes.{scope_in}

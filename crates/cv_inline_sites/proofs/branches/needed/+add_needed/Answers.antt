@@ -1,8 +1,8 @@
 use Rattle.std.proofs.Common.{◌++◌, ◌∙◌, ap, map, sym}
 use Rattle.std.proofs.lemmas.List.{append-nil}
 use Rattle.cv_syntax.proofs.Trees.{empty_at}
-use Rattle.cv_meaning_contexts.specs.Inlined as bodies
-use Rattle.cv_meaning_contexts.specs.Inlined.{is_index_of}
+use Rattle.cv_meaning.specs.contexts.Inlined as bodies
+use Rattle.cv_meaning.specs.contexts.Inlined.{is_index_of}
 use Rattle.cv_inline_sites.specs.branches.Cells.{cell_tree}
 use Rattle.cv_inline_sites.proofs.branches.Fronts.{needed_Empty}
 use Rattle.cv_inline_sites.proofs.branches.needed.+add_needed.Goals as goal

@@ -2,7 +2,7 @@ use Rattle.std.proofs.Common.{◌≡◌, ℕ, List, ◌∷◌, ap, ◌∙◌}
 use Rattle.std.proofs.lemmas.Result.{IfOk-weaker}
 use Rattle.cv_pool.specs.KindTree.{KindTree}
 use Rattle.cv_syntax_trees.specs.Tree.{Tree}
-use Rattle.cv_meaning_contexts.specs.Inlined.{CallOf, Scope, index_terms, with_call_of}
+use Rattle.cv_meaning.specs.contexts.Inlined.{CallOf, Scope, index_terms, with_call_of}
 use Rattle.cv_inline.specs.terms.Callers.{caller_in}
 use Rattle.cv_inline.specs.terms.Drawings.{drawn_in}
 use Rattle.cv_inline.specs.terms.Stacks.{names_from, tuple_at}

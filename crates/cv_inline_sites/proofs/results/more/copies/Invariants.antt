@@ -1,6 +1,6 @@
 use Rattle.std.proofs.Common.{◌≡◌, ℕ, List, All, take}
 use Rattle.cv_pool.specs.KindTree.{KindTree}
-use Rattle.cv_meaning_contexts.specs.Inlined.{Drawn}
+use Rattle.cv_meaning.specs.contexts.Inlined.{Drawn}
 use Rattle.cv_inline.specs.declared.terms.calling.Calling.{Calling}
 use Rattle.cv_inline_sites.specs.results.Outcomes.{IsLiveOutcome, results_in}
 use Rattle.cv_inline_sites.proofs.results.more.copies.Given as goal

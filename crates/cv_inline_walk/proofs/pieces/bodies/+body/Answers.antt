@@ -3,7 +3,7 @@ use Rattle.std.proofs.lemmas.Bool.Decides.{nat_tests}
 use Rattle.std.proofs.lemmas.Result.{IfOk-weaker}
 use Rattle.cv_syntax.specs.Postorder.{joined}
 use Rattle.cv_syntax_trees.specs.declared.head.Head.TheVariants as head
-use Rattle.cv_meaning_contexts.specs.Inlined.{Own, Scope, index_terms}
+use Rattle.cv_meaning.specs.contexts.Inlined.{Own, Scope, index_terms}
 use Rattle.cv_inline_sites.specs.branches.Moves.{closed_branch}
 use Rattle.cv_inline.specs.terms.Callers.{caller_in}
 use Rattle.cv_inline.specs.terms.Drawings.{drawn_in}

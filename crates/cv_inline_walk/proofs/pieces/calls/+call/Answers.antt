@@ -5,7 +5,7 @@ use Rattle.cv_syntax.specs.Postorder.{joined}
 use Rattle.cv_syntax_trees.specs.Tree.{Tree}
 use Rattle.cv_syntax.specs.PoolTrees.{tree_at}
 use Rattle.cv_meaning.specs.Correspondences.{typed_names}
-use Rattle.cv_meaning_contexts.specs.Inlined.{Own, Scope, index_terms, inlined_call}
+use Rattle.cv_meaning.specs.contexts.Inlined.{Own, Scope, index_terms, inlined_call}
 use Rattle.cv_inline.specs.terms.Callers.{caller_in}
 use Rattle.cv_inline.specs.terms.Drawings.{drawn_in}
 use Rattle.cv_inline_sites.specs.listing.Callings.{callers_in}

@@ -2,7 +2,7 @@ use Rattle.std.proofs.Common.{◌≡◌, ◌∷◌, ◌++◌, [], List, Some, ap
 use Rattle.cv_syntax_trees.specs.Tree.{Tree, size}
 use Rattle.cv_syntax.specs.PoolTrees.{tree_at}
 use Rattle.cv_meaning.specs.Correspondences.{typed_names}
-use Rattle.cv_meaning_contexts.specs.Inlined.{Scope, TheKey, inlined_call}
+use Rattle.cv_meaning.specs.contexts.Inlined.{Scope, TheKey, inlined_call}
 use Rattle.cv_inline.specs.declared.terms.scope.Standing.TheVariants as code
 use Rattle.cv_inline.specs.declared.terms.scope.Entry.{Entry}
 use Rattle.cv_inline.specs.terms.Callers.{caller_in}

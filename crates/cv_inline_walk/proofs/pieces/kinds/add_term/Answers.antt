@@ -1,4 +1,4 @@
-use Rattle.cv_meaning_contexts.specs.Inlined.{index_terms}
+use Rattle.cv_meaning.specs.contexts.Inlined.{index_terms}
 use Rattle.cv_inline_walk.proofs.pieces.ByKind.{term_added}
 use Rattle.cv_inline_walk.proofs.pieces.kinds.add_term.Goals as goal
 

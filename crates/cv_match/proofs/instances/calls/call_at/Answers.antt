@@ -3,7 +3,7 @@ use Rattle.cv_syntax_trees.specs.Tree.{second}
 use Rattle.cv_syntax.specs.PoolTrees.{tree_at}
 use Rattle.cv_syntax.proofs.Trees.{empty_at}
 use Rattle.cv_syntax.proofs.Walking.{above_child}
-use Rattle.cv_meaning_contexts.specs.Groups.{functions_of}
+use Rattle.cv_meaning.specs.contexts.Groups.{functions_of}
 use Rattle.cv_scene.specs.Instances.{first_call}
 use Rattle.cv_match.specs.instances.Matchings.{matching_by}
 use Rattle.cv_match.proofs.instances.Heading.{no_call}

@@ -1,5 +1,5 @@
 use Rattle.cv_syntax.specs.PoolTrees.{tree_at}
-use Rattle.cv_meaning_contexts.specs.Groups.{function_of}
+use Rattle.cv_meaning.specs.contexts.Groups.{function_of}
 use Rattle.cv_match.specs.instances.Matchings.{matching_by}
 use Rattle.cv_match_terms.proofs.patterns.Parts.{both_last, test_first}
 use Rattle.cv_match.proofs.instances.Testing.{instance_parts}

@@ -2,7 +2,7 @@ use Rattle.std.proofs.Common.{ap, refl}
 use Rattle.cv_syntax_trees.specs.Tree.{first, second}
 use Rattle.cv_syntax.specs.PoolTrees.{tree_at}
 use Rattle.cv_meaning.specs.Correspondences.{typed_names}
-use Rattle.cv_meaning_contexts.specs.Groups.{function_of}
+use Rattle.cv_meaning.specs.contexts.Groups.{function_of}
 use Rattle.cv_match.specs.instances.Matchings.{matching_by}
 use Rattle.cv_match_terms.proofs.patterns.Parts.{test_first, test_last, test_second}
 use Rattle.cv_match.proofs.instances.Testing.{typed_parts}

@@ -5,7 +5,7 @@ use Rattle.cv_syntax.specs.PoolTrees.{tree_at}
 use Rattle.cv_syntax.specs.Walks.{above}
 use Rattle.cv_syntax.proofs.Trees.{child_above, child_live, empty_at, node_at}
 use Rattle.cv_syntax.proofs.Walking.{above_child, above_some, size_at}
-use Rattle.cv_meaning_contexts.specs.Groups.{function_of}
+use Rattle.cv_meaning.specs.contexts.Groups.{function_of}
 use Rattle.cv_scene.specs.Scenes.{first_reading}
 use Rattle.cv_match.proofs.reads.Reading.{argument_end, argument_first, argument_here, argument_none, argument_rest}
 use Rattle.cv_match.proofs.reads.arguments.+argument_use.Goals as goal

@@ -1,7 +1,7 @@
 use Rattle.std.proofs.Common.{ap, length, ◌∙◌}
 use Rattle.cv_syntax.specs.PoolTrees.{tree_at}
 use Rattle.cv_syntax.proofs.Trees.{child_live, empty_at, node_at}
-use Rattle.cv_meaning_contexts.specs.Groups.{function_of}
+use Rattle.cv_meaning.specs.contexts.Groups.{function_of}
 use Rattle.cv_scene.specs.Instances.{term_for}
 use Rattle.cv_match_terms.specs.patterns.Searches.{may_be_argument, signature_by}
 use Rattle.cv_match_terms.proofs.patterns.Parts.{typed_end, typed_other, typed_right, typed_wrong}

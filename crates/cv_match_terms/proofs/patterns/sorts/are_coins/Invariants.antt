@@ -3,7 +3,7 @@ use Rattle.cv_pool.specs.Nodes.{ChildBelow}
 use Rattle.cv_syntax.specs.PoolTrees.{tree_at}
 use Rattle.cv_syntax.specs.Walks.{above}
 use Rattle.cv_meaning.specs.Correspondences.{typed_names}
-use Rattle.cv_meaning_contexts.specs.Groups.{function_of}
+use Rattle.cv_meaning.specs.contexts.Groups.{function_of}
 use Rattle.cv_scene.specs.Instances.{are_of_types, term_for}
 use Rattle.cv_match_terms.specs.patterns.Searches.{may_be_coin, signature_by}
 use Rattle.cv_match_terms.proofs.patterns.sorts.are_coins.Given as goal

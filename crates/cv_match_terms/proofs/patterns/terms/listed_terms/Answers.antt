@@ -5,7 +5,7 @@ use Rattle.cv_pool.specs.Nodes.{ChildBelow}
 use Rattle.cv_syntax.specs.PoolTrees.{tree_at}
 use Rattle.cv_syntax.proofs.Trees.{child_live, empty_at, node_at}
 use Rattle.cv_meaning.specs.Correspondences.{typed_names}
-use Rattle.cv_meaning_contexts.specs.Groups.{function_of}
+use Rattle.cv_meaning.specs.contexts.Groups.{function_of}
 use Rattle.cv_scene.specs.Instances.{term_for}
 use Rattle.cv_match_terms.proofs.patterns.Parts.{terms_end, terms_more, terms_other}
 use Rattle.cv_match_terms.proofs.patterns.terms.listed_terms.Goals as goal

@@ -1,7 +1,7 @@
 use Rattle.std.proofs.Common.{ℕ, ap, map, ◌∙◌}
 use Rattle.cv_syntax.specs.PoolTrees.{tree_at}
 use Rattle.cv_meaning.specs.Correspondences.{typed_names}
-use Rattle.cv_meaning_contexts.specs.Groups.{function_of}
+use Rattle.cv_meaning.specs.contexts.Groups.{function_of}
 use Rattle.cv_scene.specs.Instances.{term_for}
 use Rattle.cv_match_terms.specs.patterns.Searches.{given_by}
 use Rattle.cv_match_terms.proofs.patterns.Parts.{same_instance}

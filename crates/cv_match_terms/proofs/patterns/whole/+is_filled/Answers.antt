@@ -4,7 +4,7 @@ use Rattle.cv_syntax.specs.PoolTrees.{tree_at}
 use Rattle.cv_syntax.specs.Walks.{above}
 use Rattle.cv_syntax.proofs.Trees.{child_above, child_live, empty_at, node_at, tree_at_None}
 use Rattle.cv_syntax.proofs.Walking.{above_child, above_some}
-use Rattle.cv_meaning_contexts.specs.Groups.{function_of, group_of}
+use Rattle.cv_meaning.specs.contexts.Groups.{function_of, group_of}
 use Rattle.cv_match_terms.proofs.patterns.Parts.{filled_end, filled_first, filled_other, filled_put, filled_rest, filled_short}
 use Rattle.cv_match_terms.proofs.patterns.whole.+is_filled.Goals as goal
 

@@ -3,7 +3,7 @@ use Rattle.cv_pool.specs.Nodes.{ChildBelow}
 use Rattle.cv_syntax_trees.specs.Tree.{same_tree}
 use Rattle.cv_syntax.specs.PoolTrees.{tree_at}
 use Rattle.cv_syntax.specs.Walks.{above}
-use Rattle.cv_meaning_contexts.specs.Groups.{function_of, group_of}
+use Rattle.cv_meaning.specs.contexts.Groups.{function_of, group_of}
 use Rattle.cv_match_terms.specs.patterns.Searches.{filled_part}
 use Rattle.cv_match_terms.proofs.patterns.whole.+is_filled.Given as goal
 

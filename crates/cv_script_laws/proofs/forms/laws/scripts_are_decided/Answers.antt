@@ -1,5 +1,5 @@
 use Rattle.std.proofs.Common.{refl}
-use Rattle.cv_script_reader.specs.declared.error.ScriptError.TheVariants.{Script, Unbuilt}
+use Rattle.cv_script.specs.declared.reader.error.ScriptError.TheVariants.{Script, Unbuilt}
 use Rattle.cv_script_laws.proofs.forms.Deciding.{accepts, fills, one_script, refuses, takes}
 use Rattle.cv_script_laws.proofs.forms.laws.scripts_are_decided.Goals as goal
 

@@ -1,7 +1,7 @@
 use Rattle.std.proofs.Common.{ap, sym, ◌∙◌}
 use Rattle.cv_syntax.specs.PoolTrees.{tree_at}
-use Rattle.cv_typing_rules.specs.Parts.{in_function}
-use Rattle.cv_typing_rules.specs.Signature.{OfSide}
+use Rattle.cv_scope_rules.specs.typing.Parts.{in_function}
+use Rattle.cv_scope_rules.specs.typing.Signature.{OfSide}
 use Rattle.cv_typing.specs.Tables.{arrays_of, locals_of}
 use Rattle.cv_typing.proofs.arrays.Arrays.enter.Goals as goal
 

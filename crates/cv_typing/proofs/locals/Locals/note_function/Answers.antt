@@ -1,5 +1,5 @@
 use Rattle.std.proofs.Common.{ap, ap₂, ◌∙◌}
-use Rattle.cv_typing_rules.specs.Parts.{bound_at}
+use Rattle.cv_scope_rules.specs.typing.Parts.{bound_at}
 use Rattle.cv_typing.specs.Tables.{and_else, by_bound_in}
 use Rattle.cv_typing.proofs.Binding.{own_last}
 use Rattle.cv_typing.proofs.locals.Locals.note_function.Goals as goal

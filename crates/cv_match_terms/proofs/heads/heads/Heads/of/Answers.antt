@@ -2,7 +2,7 @@ use Rattle.std.proofs.Common.{length}
 use Rattle.std.specs.List.{list_any}
 use Rattle.cv_syntax.specs.PoolTrees.{tree_at}
 use Rattle.cv_syntax.proofs.Trees.{child_live, empty_at, node_at}
-use Rattle.cv_meaning_contexts.specs.Groups.{functions_of}
+use Rattle.cv_meaning.specs.contexts.Groups.{functions_of}
 use Rattle.cv_match_terms.specs.heads.Beginnings.{begins, may_begin}
 use Rattle.cv_match_terms.proofs.heads.Beginnings.{begun_end, begun_more}
 use Rattle.cv_match_terms.proofs.heads.heads.Heads.of.Goals as goal

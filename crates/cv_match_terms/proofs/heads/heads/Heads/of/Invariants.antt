@@ -5,7 +5,7 @@ use Rattle.cv_pool.specs.Nodes.{ChildBelow}
 use Rattle.cv_syntax_trees.specs.declared.head.Head.{Head}
 use Rattle.cv_syntax.specs.PoolTrees.{tree_at}
 use Rattle.cv_syntax.specs.Walks.{above}
-use Rattle.cv_meaning_contexts.specs.Groups.{functions_of}
+use Rattle.cv_meaning.specs.contexts.Groups.{functions_of}
 use Rattle.cv_match_terms.specs.heads.Beginnings.{begins, may_begin}
 use Rattle.cv_match_terms.proofs.heads.heads.Heads.of.Given as goal
 

@@ -1,0 +1,28 @@
+use Rattle.std.proofs.Common.{refl}
+use Rattle.cv_syntax_trees.specs.Tree.{size}
+use Rattle.cv_meaning.specs.Tapes.{written, sum_below, count, total}
+use Rattle.cv_meaning.specs.Candidates.{tuples_up_to}
+use Rattle.cv_meaning.specs.contexts.Sites.{bounds_above, sites_from}
+use Rattle.cv_meaning.specs.contexts.Frames.{put_at}
+use Rattle.cv_meaning.specs.contexts.BodyTerms.{body_value, body_values}
+use Rattle.cv_meaning.specs.contexts.Finds.{picks_at, picks, picked}
+use Rattle.cv_meaning.specs.contexts.Bodies.{body_answer, branch_answer, reply}
+use Rattle.cv_meaning.specs.contexts.Sides.{body_cells}
+use Rattle.cv_meaning.proofs.contexts.Authentication.{authenticated}
+use Rattle.cv_meaning.proofs.contexts.worked_authentication.Goals as goal
+
+pub returns-clause-authenticated : goal.returns-clause-authenticated
+unfolding size written sum_below count total tuples_up_to bounds_above sites_from put_at body_value body_values picks_at picks picked body_answer branch_answer reply body_cells
+returns-clause-authenticated c = authenticated
+
+pub returns-clause-other_key : goal.returns-clause-other_key
+unfolding size written sum_below count total tuples_up_to bounds_above sites_from put_at body_value body_values picks_at picks picked body_answer branch_answer reply body_cells
+returns-clause-other_key c = λ i t m z. refl
+
+pub returns-clause-no_message : goal.returns-clause-no_message
+unfolding size written sum_below count total tuples_up_to bounds_above sites_from put_at body_value body_values picks_at picks picked body_answer branch_answer reply body_cells
+returns-clause-no_message c = λ i t m z. refl
+
+pub returns-clause-other_side : goal.returns-clause-other_side
+unfolding size written sum_below count total tuples_up_to bounds_above sites_from put_at body_value body_values picks_at picks picked body_answer branch_answer reply body_cells
+returns-clause-other_side c = λ i t m z. refl

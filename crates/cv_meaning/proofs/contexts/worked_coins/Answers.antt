@@ -1,0 +1,31 @@
+use Rattle.std.proofs.Common.{refl}
+use Rattle.cv_syntax_trees.specs.Tree.{size}
+use Rattle.cv_meaning.specs.Tapes.{written, sum_below, count, total}
+use Rattle.cv_meaning.specs.Candidates.{tuples_up_to}
+use Rattle.cv_meaning.specs.contexts.Sites.{bounds_above, sites_from}
+use Rattle.cv_meaning.specs.contexts.Frames.{put_at}
+use Rattle.cv_meaning.specs.contexts.BodyTerms.{body_value, body_values}
+use Rattle.cv_meaning.specs.contexts.Finds.{picks_at, picks, picked}
+use Rattle.cv_meaning.specs.contexts.Bodies.{body_answer, branch_answer, reply}
+use Rattle.cv_meaning.specs.contexts.Sides.{body_cells}
+use Rattle.cv_meaning.proofs.contexts.worked_coins.Goals as goal
+
+pub returns-clause-left : goal.returns-clause-left
+unfolding size written sum_below count total tuples_up_to bounds_above sites_from put_at body_value body_values picks_at picks picked body_answer branch_answer reply body_cells
+returns-clause-left c = λ i t. refl
+
+pub returns-clause-right : goal.returns-clause-right
+unfolding size written sum_below count total tuples_up_to bounds_above sites_from put_at body_value body_values picks_at picks picked body_answer branch_answer reply body_cells
+returns-clause-right c = λ i t. refl
+
+pub returns-clause-left_cells : goal.returns-clause-left_cells
+unfolding size written sum_below count total tuples_up_to bounds_above sites_from put_at body_value body_values picks_at picks picked body_answer branch_answer reply body_cells
+returns-clause-left_cells c = λ i. refl
+
+pub returns-clause-right_cells : goal.returns-clause-right_cells
+unfolding size written sum_below count total tuples_up_to bounds_above sites_from put_at body_value body_values picks_at picks picked body_answer branch_answer reply body_cells
+returns-clause-right_cells c = λ i. refl
+
+pub returns-clause-key_size : goal.returns-clause-key_size
+unfolding size written sum_below count total tuples_up_to bounds_above sites_from put_at body_value body_values picks_at picks picked body_answer branch_answer reply body_cells
+returns-clause-key_size c = λ i. refl

@@ -1,8 +1,0 @@
-use Rattle.cv_rule_guess.proofs.WorkedRows.{of_accepted, of_refused}
-use Rattle.cv_rule_guess.proofs.worked_rows.Goals as goal
-
-pub returns-clause-accepted : goal.returns-clause-accepted
-returns-clause-accepted c = of_accepted
-
-pub returns-clause-refused : goal.returns-clause-refused
-returns-clause-refused c = of_refused

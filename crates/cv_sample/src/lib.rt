@@ -1,6 +1,0 @@
-// Sample files: many pairs of a sender and a receiver under keys of a MAC.
-#![tactic(auto)]
-
-mod samples;
-
-pub use samples::file_of;

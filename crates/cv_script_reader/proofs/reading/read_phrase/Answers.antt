@@ -1,5 +1,0 @@
-use Rattle.cv_script_reader.proofs.Steps.{reads_there}
-use Rattle.cv_script_reader.proofs.reading.read_phrase.Goals as goal
-
-pub returns : goal.returns
-returns c = reads_there c.script_rows.result c.script_rows.ensures c.args.row c.args.signs.now _ _ c.phrase.result c.phrase.ensures.reads

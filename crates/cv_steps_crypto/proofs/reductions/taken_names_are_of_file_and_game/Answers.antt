@@ -1,8 +1,0 @@
-use Rattle.cv_steps_crypto.proofs.reductions.Taken.{are_taken, listed}
-use Rattle.cv_steps_crypto.proofs.reductions.taken_names_are_of_file_and_game.Goals as goal
-
-pub returns-clause-listed : goal.returns-clause-listed
-returns-clause-listed c = listed
-
-pub returns-clause-taken : goal.returns-clause-taken
-returns-clause-taken c = are_taken
