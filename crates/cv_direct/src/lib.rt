@@ -9,6 +9,6 @@ mod routes;
 mod searching;
 
 pub use certificates::{Certificate, Entry, Route};
-pub use proposing::{Proposer, propose};
+pub use proposing::Proposer;
 pub use queries::{Atom, Correspondence, correspondence_of};
 pub use searching::{Effort, direct};

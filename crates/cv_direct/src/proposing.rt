@@ -13,7 +13,7 @@ use crate::searching::{Effort, direct};
 use cv_closure::Theory;
 use cv_grounds::{Survey, theory_of};
 use cv_step_writer::Proposal;
-use cv_syntax::{Decls, Game, NodeId, Pool, PoolError, query_at};
+use cv_syntax::{Decls, Game, NodeId, Pool, PoolError};
 use std::alloc::{AllocError, Global};
 
 /// How much effort is taken in one game.
@@ -40,13 +40,6 @@ impl Proposer {
             theory: theory_of(alloc, pool, decls)?,
             effort: Effort { left: MOST_EFFORT },
         })
-    }
-
-    /// Lets all searches together take no more than a share of the effort.
-    fn share(&mut self, count: u32) {
-        if count > 0 {
-            self.effort.left /= count;
-        }
     }
 
     /// The step that closes a query of this number.
@@ -98,37 +91,4 @@ impl Proposer {
             Err(Shortage(fault)) => Err(fault),
         }
     }
-}
-
-/// How many queries a file has.
-fn queries(decls: &Decls) -> u32 {
-    let mut count = 0_u32;
-    for k in 0..decls.len() {
-        if query_at(decls, k).is_some() {
-            count = count.saturating_add(1);
-        }
-    }
-    count
-}
-
-/// The step that closes a query in a game, the query by its node and by its number from 1, as a proposer of the game gives it. It
-/// takes the query's share of the effort.
-#[tactic(auto, using(crate::proofs::Below::planting))]
-pub fn propose(
-    alloc: Global,
-    pool: &mut Pool,
-    decls: &Decls,
-    game: NodeId,
-    query: NodeId,
-    number: u64,
-) -> Result<Option<Proposal>, PoolError>
-    ensures below { IfOk result (λ o. IfSome o (IsProposalBelow (length pool.new.trees))) }
-    ensures grows { Grows pool.old pool.new }
-{
-    let mut proposer = match Proposer::of(alloc, pool, decls, game) {
-        Ok(proposer) => proposer,
-        Err(AllocError) => return Err(PoolError::OutOfMemory),
-    };
-    proposer.share(queries(decls));
-    proposer.propose(alloc, pool, query, number)
 }

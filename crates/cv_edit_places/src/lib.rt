@@ -16,4 +16,4 @@ pub use making::make_game;
 pub use measuring::measure;
 pub use parts::{Part, Parts};
 pub use plan::{Failure, Priced};
-pub use terms::{has_site, has_term_at};
+pub use terms::{has_site, has_term_at, is_term, parts_within};

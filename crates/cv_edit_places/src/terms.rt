@@ -15,7 +15,7 @@ use cv_syntax::{Head, NodeId, Pool, read_node};
 use cv_typing::Arrays;
 
 /// What the children of a node are; the indices of a read are passed over.
-fn parts_within(phrase: Phrase, head: Head) -> (Phrase, Phrase)
+pub fn parts_within(phrase: Phrase, head: Head) -> (Phrase, Phrase)
     ensures { both result ≡ rewriting.parts_of (phrase_of phrase) head }
 {
     match head {
@@ -28,7 +28,7 @@ fn parts_within(phrase: Phrase, head: Head) -> (Phrase, Phrase)
 }
 
 /// Whether what stands there is a term.
-fn is_term(phrase: Phrase) -> bool
+pub fn is_term(phrase: Phrase) -> bool
     ensures { result ≡ rewriting.is_term (phrase_of phrase) }
 {
     match phrase {

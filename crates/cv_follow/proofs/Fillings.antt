@@ -318,8 +318,8 @@ block_filled start now first script w e h = record {
   walk = h.walk;
 }
 
-pub block_plain : (nodes : ℕ) (ds : List Declaration) (own : ℕ) (first : Tree) (script queries : List Tree) (trees : List KindTree) (w : Walk) → has_word script ≡ false → IsWalk nodes ds own first script queries trees w → IsBlockWalk nodes ds own first script queries trees w
-block_plain nodes ds own first script queries trees w e h = record {
+pub block_plain : (nodes : ℕ) (declared : List Declaration) (own : ℕ) (first : Tree) (script queries : List Tree) (trees : List KindTree) (w : Walk) → has_word script ≡ false → IsWalk nodes declared own first script queries trees w → IsBlockWalk nodes declared own first script queries trees w
+block_plain nodes declared own first script queries trees w e h = record {
   steps = script;
   room = nodes;
   stands = subst (λ b. StandsBy b nodes script script nodes) (sym e) (refl, refl);
@@ -334,15 +334,15 @@ HasTrail end trail vs nodes c queries (Some script) =
 
 -- so it is of what was walked in the pool before
 
-wide : (m n : ℕ) (ds : List Declaration) (own : ℕ) (first : Tree) (steps queries : List Tree) (end : Status) → m ≤ n → (w : Follows m ds own first steps queries end) → (v : Follows n ds own first steps queries end) × (v.proof ≡ w.proof)
-wide m n ds own first steps queries end l w = (
+wide : (m n : ℕ) (declared : List Declaration) (own : ℕ) (first : Tree) (steps queries : List Tree) (end : Status) → m ≤ n → (w : Follows m declared own first steps queries end) → (v : Follows n declared own first steps queries end) × (v.proof ≡ w.proof)
+wide m n declared own first steps queries end l w = (
   record {
     proof = w.proof;
     left = w.left;
     split = w.split;
     last = w.last;
     leads = w.leads;
-    ends = ends_wider (m + nodes_along ds (known_to own) first w.proof) (n + nodes_along ds (known_to own) first w.proof) (length w.proof) (scene ds (known_to own) w.last) (closed_by w.proof) queries w.left end (omega arith) w.ends;
+    ends = ends_wider (m + nodes_along declared (known_to own) first w.proof) (n + nodes_along declared (known_to own) first w.proof) (length w.proof) (scene declared (known_to own) w.last) (closed_by w.proof) queries w.left end (omega arith) w.ends;
   },
   refl,
 )

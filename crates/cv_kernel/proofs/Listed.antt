@@ -1,5 +1,5 @@
 -- The places that a step lists, one by one.
-use Rattle.std.proofs.Common.{◌≡◌, ℕ, ◌<◌, ◌≤◌, ◌++◌, Bool, true, false, ◌&&◌, ◌||◌, nat_lt, List, [], ◌∷◌, append-nil, append_assoc, arith, refl, sym, ap, ◌∙◌}
+use Rattle.std.proofs.Common.{◌≡◌, ℕ, ◌<◌, ◌++◌, Bool, true, false, ◌&&◌, ◌||◌, nat_lt, List, [], ◌∷◌, append-nil, append_assoc, arith, refl, sym, ap, ◌∙◌}
 use Rattle.std.proofs.lemmas.Bool.Decides.{nat_tests}
 use Rattle.std.specs.List.{list_all}
 use Rattle.cv_syntax_trees.specs.declared.head.Head.{Head}

@@ -1,5 +1,5 @@
 -- How a game changes by a step that stands by itself, where all its conditions hold.
-use Rattle.std.proofs.Common.{◌≡◌, ℕ, ◌<◌, ◌≤◌, ◌^◌, Bool, true, false, ◌&&◌, nat_lt, if◌then◌else◌, List, length, Some, None, Result, Ok, Err, refl, sym, ap, ◌∙◌, subst, arith}
+use Rattle.std.proofs.Common.{◌≡◌, ℕ, ◌<◌, ◌≤◌, ◌^◌, Bool, true, false, ◌&&◌, if◌then◌else◌, List, length, Some, None, Result, Ok, Err, refl, sym, ap, ◌∙◌, subst, arith}
 use Rattle.std.proofs.lemmas.Bool.Decides.{nat_tests}
 use Rattle.std.specs.List.{list_all}
 use Rattle.std.specs.Prelude.{IfErr, IfOk, IsErrAnd, OnOk}
@@ -8,18 +8,15 @@ use Rattle.cv_pool.specs.KindTree.{KindTree}
 use Rattle.cv_syntax_trees.specs.Tree.{Tree, size}
 use Rattle.cv_syntax.specs.PoolTrees.{tree_at}
 use Rattle.cv_scene.specs.Scenes.{Scene, has_place}
-use Rattle.cv_steps.specs.Elementary.{let_step, new_step, prune_step, rename_step, rewrite_step, split_step, unlet_step, unnew_step}
+use Rattle.cv_steps.specs.Elementary.{let_step, new_step, prune_step, rewrite_step, split_step}
 use Rattle.cv_steps.specs.Judgements.{Refused, judgement_of, judgement_of_row}
 use Rattle.cv_steps.specs.Steps.{Step}
-use Rattle.cv_rule.proofs.Leading.{let_leads, new_leads, prune_leads, rename_leads, rewrite_leads, split_leads, unlet_leads, unnew_leads}
+use Rattle.cv_rule.proofs.Leading.{let_leads, new_leads, prune_leads, rewrite_leads, split_leads}
 use Rattle.cv_edit_places.specs.declared.change.Change.TheVariants as change
 use Rattle.cv_edit_places.specs.Changes.{need_at}
-use Rattle.cv_edit_places.specs.Dropping.{need_without}
 use Rattle.cv_edit_places.specs.Plans.{failed, failure_of}
 use Rattle.cv_edit_changes.specs.declared.pruning.body.Body.{Body}
 use Rattle.cv_edit_changes.specs.pruning.Bodies as pruning
-use Rattle.cv_edit_changes.specs.renaming.Needs.{need_renaming}
-use Rattle.cv_edit_changes.specs.unletting.Games.{need_unletting}
 use Rattle.cv_edit.specs.declared.edit.Edit.{Edit}
 use Rattle.cv_edit.specs.declared.edit.Edit.TheVariants as edit
 use Rattle.cv_kernel.specs.declared.error.RuleError.{RuleError}

@@ -1,20 +1,14 @@
 -- Steps that a sequence takes.
-use Rattle.std.proofs.Common.{◌≡◌, ℕ, zero, suc, ◌+◌, ◌*◌, ◌<◌, ◌≤◌, Bool, true, false, nat_lt, if◌then◌else◌, List, [], ◌∷◌, length, Option, Some, None, Result, Ok, Err, refl, sym, ap, ap₂, ◌∙◌, subst, arith}
+use Rattle.std.proofs.Common.{◌≡◌, ℕ, suc, ◌+◌, ◌*◌, ◌<◌, ◌≤◌, Bool, true, false, nat_lt, if◌then◌else◌, List, length, Option, Some, None, Result, Ok, Err, refl, sym, ap, ◌∙◌, subst, arith}
 use Rattle.std.proofs.lemmas.Bool.Decides.{nat_tests}
-use Rattle.std.specs.Prelude.{All, OnOk}
-use Rattle.cv_pool.specs.declared.node.NodeId.{NodeId}
+use Rattle.std.specs.Prelude.{OnOk}
 use Rattle.cv_pool.specs.KindTree.{KindTree}
-use Rattle.cv_pool.specs.PoolView.{PoolView, Grows}
+use Rattle.cv_pool.specs.PoolView.{PoolView}
 use Rattle.cv_syntax.specs.Classes.{DeclsView}
-use Rattle.cv_syntax.specs.declared.decls.Decl.{Decl}
-use Rattle.cv_syntax.specs.declared.decls.Decl.TheVariants as decl
 use Rattle.cv_syntax.specs.declared.work.BuildError.TheVariants as build
-use Rattle.cv_syntax_trees.specs.Declarations.{Named, Equation, Equiv, Query}
-use Rattle.cv_syntax.specs.Declarations.{declared, declarations, number}
+use Rattle.cv_syntax.specs.Declarations.{declarations}
 use Rattle.cv_syntax_trees.specs.Tree.{Tree, depth, size}
 use Rattle.cv_syntax.specs.PoolTrees.{tree_at}
-use Rattle.cv_syntax.proofs.Buildings.{child_grown}
-use Rattle.cv_directory.specs.Live.{IsLive}
 use Rattle.cv_bound.specs.declared.cost.Cost.{Cost as SumCost}
 use Rattle.cv_bound.specs.declared.cost.Cost.TheVariants as bound
 use Rattle.cv_bound.specs.Sums.{coefficients, terms_of}
@@ -38,7 +32,6 @@ use Rattle.cv_kernel.specs.Rules.{Rule, needed_by, rule_in}
 use Rattle.cv_kernel.specs.Sequences.{AreModest, IsAdvanced, IsPushAnswer, IsPushed, Same, game_in, needed}
 use Rattle.cv_kernel.specs.Steps.{judgement_by}
 use Rattle.cv_kernel.proofs.StepAnswers.{rule_pushed}
-use Rattle.cv_kernel_crypto.proofs.Growing.{root_grown}
 
 -- an accepted step leads to a game within the limits
 

@@ -39,7 +39,8 @@ part_of written.Then = Then
 part_of written.Else = Else
 part_of (written.Branch k) = Branch k
 
--- The rule of a step with these items; the others have none yet.
+-- The rule of a step with these items. A `crypto` is taken by an equivalence and a `success` closes a query, so these have none; nor has a
+-- `simplify`, for which other steps stand.
 abbrev pub rule_of_items : StepItems → Option Rule
 rule_of_items (items.Split p m) = Some (record { step = split_step p m; need = need_at p 3 })
 rule_of_items (items.Let p x T m) = Some (record { step = let_step p x T m; need = need_at p 1 })

@@ -16,7 +16,8 @@ ghost use Rattle.cv_kernel.specs.Steps.{AreShort};
 use crate::elementary::{after_let, after_new, pruned, rewritten, split, tested};
 use crate::error::RuleError;
 use crate::rooms::{
-    codefined, compared, guessed, merged, missed, moved, picked, split_definitions,
+    birthday_plan, codef_edit, fresh_plan, guess_plan, merge_edit, move_edit, pick_edit,
+    split_definitions,
 };
 use cv_bound::Cost;
 use cv_edit::Edit;
@@ -57,8 +58,8 @@ pub(crate) fn place_in(number: u64) -> Result<u32, RuleError>
     Ok(number as u32)
 }
 
-/// How a step that costs nothing changes a game, where all its conditions hold there. Each rule has one arm; a step of another kind
-/// has no rule yet.
+/// How a step that costs nothing changes a game, where all its conditions hold there. Each rule has one arm. Steps that cost something,
+/// `crypto` and `success` are taken elsewhere, and for a `simplify` other steps stand.
 fn free_edit(
     alloc: Global,
     work: &Work,
@@ -104,15 +105,15 @@ fn free_edit(
             rewritten(alloc, work, game, arrays, place, term, by)
         }
         StepView::Prune { place, part, by } => pruned(alloc, work, game, arrays, place, part, by),
-        StepView::Move { place } => moved(alloc, work, game, place),
-        StepView::Merge { place } => merged(alloc, work, game, place),
+        StepView::Move { place } => move_edit(alloc, work, game, place),
+        StepView::Merge { place } => merge_edit(alloc, work, game, place),
         StepView::Codef {
             place,
             add,
             to,
             from,
             above,
-        } => { codefined(alloc, work, game, arrays, place, add, to, from, above) }
+        } => { codef_edit(alloc, work, game, arrays, place, add, to, from, above) }
         StepView::ArrayRename { x, to } => split_definitions(alloc, work, game, x.0, to),
         StepView::Pick {
             place,
@@ -121,7 +122,7 @@ fn free_edit(
             at_find,
         } => {
             let by = Derivations { at_body, at_find };
-            picked(alloc, work, game, arrays, place, terms, by)
+            pick_edit(alloc, work, game, arrays, place, terms, by)
         }
         _ => Err(refused(0)),
     }
@@ -155,9 +156,9 @@ pub(crate) fn plan(
         (rule_of_items (items_of_view work.now.pool.trees view)) result }
 {
     match view {
-        StepView::Fresh { place } => missed(alloc, work, game, arrays, place),
-        StepView::Birthday { x, at } => compared(alloc, work, game, arrays, x.0, at),
-        StepView::Guess { x, at } => guessed(alloc, work, game, arrays, x.0, at),
+        StepView::Fresh { place } => fresh_plan(alloc, work, game, arrays, place),
+        StepView::Birthday { x, at } => birthday_plan(alloc, work, game, arrays, x.0, at),
+        StepView::Guess { x, at } => guess_plan(alloc, work, game, arrays, x.0, at),
         _ => {
             let edit = free_edit(alloc, work, game, arrays, view)?;
             Ok(at_no_cost(edit))

@@ -47,7 +47,7 @@ fn at(place: u32, planned: Result<Change, Failure>) -> Result<Edit, RuleError>
 }
 
 /// How a `move` changes a game.
-pub(crate) fn moved(
+pub(crate) fn move_edit(
     alloc: Global,
     work: &Work,
     game: NodeId,
@@ -63,7 +63,7 @@ pub(crate) fn moved(
 }
 
 /// How a `merge` changes a game.
-pub(crate) fn merged(
+pub(crate) fn merge_edit(
     alloc: Global,
     work: &Work,
     game: NodeId,
@@ -80,7 +80,7 @@ pub(crate) fn merged(
 }
 
 /// How a `codef` changes a game.
-pub(crate) fn codefined(
+pub(crate) fn codef_edit(
     alloc: Global,
     work: &Work,
     game: NodeId,
@@ -129,7 +129,7 @@ pub(crate) fn split_definitions(
 }
 
 /// How a `pick` changes a game.
-pub(crate) fn picked(
+pub(crate) fn pick_edit(
     alloc: Global,
     work: &Work,
     game: NodeId,
@@ -173,7 +173,7 @@ fn priced_at(place: u32, planned: Result<Priced, Failure>) -> Result<StepPlan, R
 }
 
 /// How a `fresh` changes a game, and what it costs.
-pub(crate) fn missed(
+pub(crate) fn fresh_plan(
     alloc: Global,
     work: &Work,
     game: NodeId,
@@ -191,7 +191,7 @@ pub(crate) fn missed(
 }
 
 /// How a `birthday` changes a game, and what it costs.
-pub(crate) fn compared(
+pub(crate) fn birthday_plan(
     alloc: Global,
     work: &Work,
     game: NodeId,
@@ -213,7 +213,7 @@ pub(crate) fn compared(
 }
 
 /// How a `guess` changes a game, and what it costs.
-pub(crate) fn guessed(
+pub(crate) fn guess_plan(
     alloc: Global,
     work: &Work,
     game: NodeId,

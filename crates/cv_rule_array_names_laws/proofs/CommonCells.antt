@@ -23,6 +23,7 @@ use Rattle.cv_meaning_chances.proofs.unread.CellSizes.{is_in_size, same_by_sizes
 use Rattle.cv_meaning_chances.specs.Tests.{HasDistinctCells, HasValues, Ignores, IgnoresOthers}
 use Rattle.cv_meaning_chances.specs.unread.Sizes.{GiveSizesFor, size_in}
 use Rattle.cv_meaning_runs.specs.Listed.{has_no_calls}
+use Rattle.cv_steps.proofs.CellSizes.{first_none, size_append}
 use Rattle.cv_steps.proofs.Sizes.{IsSized, NamesSorts, all_cells, all_sizes}
 use Rattle.cv_steps.specs.Changes.{only}
 use Rattle.cv_steps_laws.proofs.Unnamed.{unnamed_undrawn}
@@ -35,18 +36,6 @@ use Rattle.cv_rule_array_names.proofs.Runs.{IsOther}
 use Rattle.cv_rule_array_names.proofs.Stores.{Free, is_name}
 
 -- sizes in lists
-
-first_none : (o : Option ℕ) → first_of o None ≡ o
-first_none None = refl
-first_none (Some k) = refl
-
-size_append : (cs ds : List (Cell × ℕ)) (d : Cell) → size_in (cs ++ ds) d ≡ first_of (size_in cs d) (size_in ds d)
-size_append [] ds d = refl
-size_append (c ∷ cs) ds d = go (same_cell c.0 d) (size_append cs ds d)
-  where
-    go : (b : Bool) → size_in (cs ++ ds) d ≡ first_of (size_in cs d) (size_in ds d) → cond b (Some c.1) (size_in (cs ++ ds) d) ≡ first_of (cond b (Some c.1) (size_in cs d)) (size_in ds d)
-    go true k = refl
-    go false k = k
 
 size_has : (cs : List (Cell × ℕ)) (c : Cell) (k : ℕ) → size_in cs c ≡ Some k → Has cs (c, k)
 size_has [] c k e = absurd (cc)

@@ -2,5 +2,6 @@ mod Changes
 mod Copies
 mod Equated
 mod Planned
+mod Roots
 mod Sizes
 mod WorkedBirthdays

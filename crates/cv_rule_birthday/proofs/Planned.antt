@@ -16,11 +16,13 @@ use Rattle.cv_edit_places.specs.declared.parts.Parts.{Parts}
 use Rattle.cv_edit_places.specs.declared.plan.Priced.{Priced}
 use Rattle.cv_rule_birthday.specs.Chosen.{IsChosen, parameters_of}
 use Rattle.cv_rule_birthday.specs.Comparing.{compared, is_one_of}
+use Rattle.cv_rule_birthday.specs.Conditions.{stands_at_places}
 use Rattle.cv_rule_birthday.specs.Needs.{made_of_changed}
-use Rattle.cv_rule_birthday.specs.Row.{birthday_row, birthday_step, stands_birthday}
-use Rattle.cv_rule_birthday.proofs.Sizes.{changed_size, game_there, root_replaced}
+use Rattle.cv_rule_birthday.specs.Row.{birthday_row, birthday_step}
+use Rattle.cv_rule_birthday.proofs.Roots.{game_there, root_replaced}
+use Rattle.cv_rule_birthday.proofs.Sizes.{changed_size}
 
-pub planned : (trees : List KindTree) (s : Scene) (x : ℕ) (ps : List ℕ) (T : ℕ) (parts : Parts) (priced : Priced) → stands_birthday s x ps ≡ true → size s.game ≤ 50000 → is_phrase Inputs s.game ≡ true → IsChosen s x ps (Ok T)
+pub planned : (trees : List KindTree) (s : Scene) (x : ℕ) (ps : List ℕ) (T : ℕ) (parts : Parts) (priced : Priced) → stands_at_places s x ps ≡ true → size s.game ≤ 50000 → is_phrase Inputs s.game ≡ true → IsChosen s x ps (Ok T)
     → stack_of trees parts ≡ changed_at (is_one_of ps) compared 0 s.game ∷ [] → made_by parts ≡ made_of_changed (is_one_of ps) 0 s.game → AreLive (length trees) parts
     → priced.change ≡ Built parts → priced.cost ≡ cost_of (one_for_pairs s.declarations (parameters_of s.game x) T) → IsPricedChange trees s (birthday_step x ps) 0 (made_of_changed (is_one_of ps) 0 s.game) priced
 planned trees s x ps T parts priced there small phrase leads stack made live change same = record {

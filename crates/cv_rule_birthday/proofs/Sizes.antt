@@ -1,14 +1,13 @@
 -- How large a game is where comparisons of cells become those of indices: at most twice as large.
-use Rattle.std.proofs.Common.{◌≡◌, ℕ, ◌+◌, ◌*◌, ◌<◌, ◌≤◌, Bool, true, false, cond, nat_lt, List, [], ◌∷◌, length, Option, Some, None, refl, ap, subst, arith}
+use Rattle.std.proofs.Common.{◌≡◌, ℕ, ◌+◌, ◌*◌, ◌≤◌, Bool, true, false, cond, List, [], ◌∷◌, length, Option, Some, None, refl, subst, arith}
 use Rattle.std.proofs.lemmas.Bool.{both_ways}
 use Rattle.cv_syntax_trees.specs.declared.head.Head.{Head}
-use Rattle.cv_syntax_trees.specs.declared.head.Head.TheVariants.{And, Apply, Cons, Eq, In, Leaf, No, Not, Or, Par, Read, Repl, Stop, Yes}
+use Rattle.cv_syntax_trees.specs.declared.head.Head.TheVariants.{And, Apply, Cons, Eq, Leaf, No, Not, Or, Read, Yes}
 use Rattle.cv_syntax_trees.specs.Head.{weight}
 use Rattle.cv_syntax_trees.specs.Tree.{Tree, Empty, Node, first, first_place, second_place, size}
 use Rattle.cv_derive_rules.specs.Inferences.{equations_of}
-use Rattle.cv_meaning.specs.Replaced.{replaced}
 use Rattle.cv_scope_rules.specs.Context.{items}
-use Rattle.cv_scope_rules.specs.Phrases.{Phrase, Inputs, Nil, Term, Terms, is_phrase, parts}
+use Rattle.cv_scope_rules.specs.Phrases.{Phrase, Nil, Term, Terms, is_phrase, parts}
 use Rattle.cv_steps.proofs.Flat.{open_phrase}
 use Rattle.cv_edit_places.specs.Parts.{total_of}
 use Rattle.cv_costs.specs.wording.Changing.{changed_at, is_changed}
@@ -148,32 +147,3 @@ changed_size on p σ (Node h a b) e =
         → size (cond v (compared (Node h a b)) (Node h (changed_at on compared (first_place p h) a) (changed_at on compared (second_place p h a) b))) ≤ 2 * size (Node h a b)
     go true c f s = c
     go false c f s = omega (arith, f, s)
-
--- the first place of a game
-
-abbrev IfOne : Head → Option (Phrase × Phrase) → Type 0
-IfOne h None = Unit {0}
-IfOne h (Some q) = weight h ≡ 1
-
-rows_of_inputs : (h : Head) → IfOne h (parts Inputs h)
-rows_of_inputs Stop = refl
-rows_of_inputs Par = refl
-rows_of_inputs (Repl i n) = refl
-rows_of_inputs (In c) = refl
-rows_of_inputs h = tt
-
-root_weight : (h : Head) (a b : Tree) → is_phrase Inputs (Node h a b) ≡ true → weight h ≡ 1
-root_weight h a b e = let o = open_phrase Inputs h a b e in subst (IfOne h) o.1 (rows_of_inputs h)
-
-pub game_there : (t : Tree) → is_phrase Inputs t ≡ true → 0 < size t
-unfolding is_phrase size
-game_there Empty e = absurd (both_ways false refl e)
-game_there (Node h a b) e = omega (arith, root_weight h a b e)
-
-chosen : (v : Bool) (x y : Tree) → v ≡ true → cond v x y ≡ x
-chosen v x y e = ap (λ u. cond u x y) e
-
-pub root_replaced : (t new : Tree) → is_phrase Inputs t ≡ true → replaced t 0 new ≡ new
-unfolding is_phrase replaced
-root_replaced Empty new e = absurd (both_ways false refl e)
-root_replaced (Node h a b) new e = chosen (nat_lt 0 (weight h)) new _ (ap (nat_lt 0) (root_weight h a b e))

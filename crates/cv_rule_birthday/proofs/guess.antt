@@ -1,4 +1,3 @@
-mod Descent
 mod Planned
 mod Terms
 mod Walks

@@ -1,4 +1,5 @@
 pub mod Comparing
+pub mod Conditions
 pub mod Row
 pub mod Needs
 pub mod Chosen

@@ -1,17 +1,17 @@
 -- The step `birthday`: comparisons of two cells of one array, whose values are all chosen at random, become comparisons of their indices.
 -- Blanchet, TDSC 2008, bounds by collisions how often they differ; the conditions and their order are this profile's own.
-use Rattle.std.specs.Prelude.{ℕ, Bool, ◌&&◌, ◌||◌, List, [], Option, Some, None}
-use Rattle.std.specs.List.{list_all}
+use Rattle.std.specs.Prelude.{ℕ, List, [], Option, Some, None}
 use Rattle.cv_directory_sorts.specs.declared.sort.Sort.{Sort}
 use Rattle.cv_directory_sorts.specs.declared.sort.Sort.TheVariants.{BelowParameter, OfType}
 use Rattle.cv_directory_sorts.specs.Sites.{Variable, first_site}
-use Rattle.cv_scene.specs.Scenes.{Scene, has_place, names}
+use Rattle.cv_scene.specs.Scenes.{Scene}
 use Rattle.cv_steps.specs.Rows.{unless, unless_at}
 use Rattle.cv_steps.specs.Steps.{Fails, Leads, Row, Step}
 use Rattle.cv_costs.specs.Collisions.{one_for_pairs}
-use Rattle.cv_costs.specs.Large.{are_increasing, first_other_site, is_large}
+use Rattle.cv_costs.specs.Large.{first_other_site, is_large}
 use Rattle.cv_costs.specs.wording.Changing.{changed_at}
 use Rattle.cv_rule_birthday.specs.Comparing.{compared, first_uncompared, is_one_of}
+use Rattle.cv_rule_birthday.specs.Conditions.{stands_at_places}
 
 -- the type of a variable
 abbrev pub type_of : Sort → ℕ
@@ -29,8 +29,5 @@ birthday_row_by s x ps (Some v) =
 abbrev pub birthday_row : Scene → (x : ℕ) → (places : List ℕ) → Row
 birthday_row s x ps = unless_at 1 (first_uncompared s.game x ps) (birthday_row_by s x ps (first_site x [] s.game))
 
-abbrev pub stands_birthday : Scene → (x : ℕ) → (places : List ℕ) → Bool
-stands_birthday s x ps = (s.known x || names x s.game) && (list_all (has_place s) ps && are_increasing ps)
-
 abbrev pub birthday_step : (x : ℕ) → (places : List ℕ) → Step
-birthday_step x ps = record { stands = λ s. stands_birthday s x ps; row = λ s. birthday_row s x ps }
+birthday_step x ps = record { stands = λ s. stands_at_places s x ps; row = λ s. birthday_row s x ps }

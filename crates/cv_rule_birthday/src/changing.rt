@@ -15,7 +15,7 @@ use cv_syntax::{Head, NodeId, Pool, read_node, size};
 use std::alloc::{AllocError, Global};
 
 /// Whether a place is one of a list.
-fn is_one_of(places: &[u32], place: u32) -> bool
+pub(crate) fn is_one_of(places: &[u32], place: u32) -> bool
     ensures { result ≡ comparing.is_one_of places.now place }
 {
     'places: for k in 0..places.len() {

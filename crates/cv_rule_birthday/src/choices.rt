@@ -5,24 +5,17 @@ ghost use Rattle.cv_directory_sorts.specs.Sites.{sites_of};
 ghost use Rattle.cv_typing.specs.Tables.{arrays_of};
 ghost use Rattle.cv_scope_rules.specs.typing.Signature.{OfGame, variable_in};
 ghost use Rattle.cv_scene_view.specs.Kept.{scene_of};
-ghost use Rattle.cv_edit_places.specs.Plans as plans;
 ghost use Rattle.cv_rule_birthday.specs.Chosen.{IsChosen, parameters_by};
 ghost use Rattle.cv_rule_birthday.specs.Row as row;
 
 use crate::comparisons::first_uncompared;
+use crate::conditions::failed;
 use cv_costs::{first_other_site, is_large};
 use cv_directory_sorts::Sort;
 use cv_edit_places::Failure;
 use cv_syntax::{NodeId, Work};
 use cv_typing::Arrays;
 use std::alloc::{AllocError, Global};
-
-/// A condition that fails.
-pub(crate) fn failed(condition: u32, place: u32) -> Failure
-    ensures { result ≡ plans.failed condition place }
-{
-    Failure { condition, place }
-}
 
 /// The type of a variable, or the parameter of one whose values are indices.
 fn type_of(sort: Sort) -> u32

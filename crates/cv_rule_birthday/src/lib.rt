@@ -4,6 +4,7 @@
 mod changing;
 mod choices;
 mod comparisons;
+mod conditions;
 mod equations;
 pub mod guess;
 mod planning;

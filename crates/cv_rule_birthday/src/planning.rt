@@ -1,5 +1,4 @@
-ghost use Rattle.std.specs.Prelude.{◌≡◌, ◌<◌, ◌≤◌, ◌^◌, IfOk, Some, length};
-ghost use Rattle.std.specs.List.{list_all};
+ghost use Rattle.std.specs.Prelude.{◌≡◌, ◌<◌, ◌≤◌, IfOk, Some, length};
 ghost use Rattle.cv_syntax_trees.specs.Tree.{size};
 ghost use Rattle.cv_syntax.specs.Declarations.{declarations};
 ghost use Rattle.cv_syntax.specs.PoolTrees.{tree_at};
@@ -7,46 +6,20 @@ ghost use Rattle.cv_directory_sorts.specs.Sites.{sites_of};
 ghost use Rattle.cv_typing.specs.Tables.{arrays_of};
 ghost use Rattle.cv_scope_rules.specs.typing.Signature.{OfGame};
 ghost use Rattle.cv_scope_rules.specs.Phrases.{IsWellFormed};
-ghost use Rattle.cv_scene.specs.Scenes as scenes;
 ghost use Rattle.cv_scene_view.specs.Kept.{scene_of};
 ghost use Rattle.cv_edit_places.specs.Plans.{IsPriced};
 ghost use Rattle.cv_rule_birthday.specs.Comparing.{is_one_of};
 ghost use Rattle.cv_rule_birthday.specs.Needs.{made_of_changed};
-ghost use Rattle.cv_rule_birthday.specs.Row.{birthday_step, stands_birthday};
+ghost use Rattle.cv_rule_birthday.specs.Row.{birthday_step};
 
 use crate::changing::changed_parts;
-use crate::choices::{chosen_type, failed, parameters_of};
-use cv_costs::{are_increasing, cost_of_pairs};
+use crate::choices::{chosen_type, parameters_of};
+use crate::conditions::{failed, stands};
+use cv_costs::cost_of_pairs;
 use cv_edit_places::{Change, Failure, Priced};
-use cv_scene_view::{has_place, is_known};
 use cv_syntax::{NodeId, Work};
 use cv_typing::Arrays;
 use std::alloc::{AllocError, Global};
-
-/// Whether a game has each of some places.
-fn has_places(work: &Work, game: NodeId, places: &[u32]) -> bool
-    requires live { game.0 < length work.now.pool.trees }
-    requires fits { size (tree_at work.now.pool.trees (Some game)) < 2 ^ 32 }
-    ensures { result ≡ list_all
-        (scenes.has_place (scene_of work.now.pool work.now.decls game)) places.now }
-{
-    'places: for k in 0..places.len() {
-        if !has_place(work, game, places[k]) {
-            return false;
-        }
-    }
-    true
-}
-
-/// Whether the file or the game has the variable, and the game the places, each behind the one before it.
-fn stands(work: &Work, game: NodeId, x: u32, places: &[u32]) -> bool
-    requires live { game.0 < length work.now.pool.trees }
-    requires fits { size (tree_at work.now.pool.trees (Some game)) < 2 ^ 32 }
-    ensures { result ≡ stands_birthday (scene_of work.now.pool work.now.decls game) x
-        places.now }
-{
-    is_known(work, game, x) && (has_places(work, game, places) && are_increasing(places))
-}
 
 /// How a `birthday` changes a game, and what it costs; or the condition that fails.
 pub fn plan(

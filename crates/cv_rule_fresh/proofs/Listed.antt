@@ -1,7 +1,7 @@
 -- Each copy of a choice has its cell in the list of an experiment, with the size of its type; and there are as many as the product of
 -- the parameters says.
-use Rattle.std.proofs.Common.{◌≡◌, ℕ, zero, suc, ◌+◌, ◌*◌, ◌<◌, ◌==◌, ◌||◌, not, Bool, true, false, cond, List, [], ◌∷◌, ◌++◌, filter, flat_map, length, map, Contains, inl, Option, Some, None, is_some, option_map, refl, sym, ap, ap₂, subst, ◌∙◌, ◌≢◌, arith, eqb-true}
-use Rattle.std.proofs.lemmas.Bool.{both_ways, eqb-false}
+use Rattle.std.proofs.Common.{◌≡◌, ℕ, zero, suc, ◌+◌, ◌*◌, ◌==◌, ◌||◌, not, Bool, true, false, cond, List, [], ◌∷◌, ◌++◌, filter, flat_map, length, map, Contains, inl, Option, Some, None, is_some, option_map, refl, sym, ap, ap₂, subst, ◌∙◌, arith}
+use Rattle.std.proofs.lemmas.Bool.{both_ways}
 use Rattle.std.proofs.lemmas.List.{length-append, length-map}
 use Rattle.std.specs.List.{AllByRecursion}
 use Rattle.cv_syntax_trees.specs.declared.head.Head.{Head}
@@ -23,7 +23,7 @@ use Rattle.cv_meaning_chances.proofs.CellLists.{contains_here, contains_later}
 use Rattle.cv_directory_sorts.specs.Sites.{Variable, first_site}
 use Rattle.cv_typing_runs.specs.Games.{context_of, variable_of_meaning}
 use Rattle.cv_scope_rules.specs.Context.{Context, replications_below}
-use Rattle.cv_scope_rules.specs.Phrases.{Phrase, Nil, Inputs, is_oracle_phrase, oracle_parts}
+use Rattle.cv_scope_rules.specs.Phrases.{Phrase, Nil, is_oracle_phrase, oracle_parts}
 use Rattle.cv_scope_rules.proofs.Apart.{first_replications, second_replications}
 use Rattle.cv_scope_runs.specs.Promises.{AreIndicesOf}
 use Rattle.cv_scope_runs.proofs.Games.{Game, stands_phrase}

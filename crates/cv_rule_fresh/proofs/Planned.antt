@@ -1,5 +1,5 @@
 -- What is planned: the conditions in their order, and the change.
-use Rattle.std.proofs.Common.{◌≡◌, ℕ, ◌+◌, ◌<◌, ◌≤◌, ◌^◌, Bool, true, false, cond, nat_lt, List, [], ◌∷◌, length, map, Option, Some, None, Result, Ok, Err, refl, sym, ap, ap₂, subst, ◌∙◌, arith, ltb-true}
+use Rattle.std.proofs.Common.{◌≡◌, ℕ, ◌≤◌, Bool, true, false, cond, nat_lt, List, length, Some, None, refl, sym, ap, ap₂, subst, ◌∙◌, arith, ltb-true}
 use Rattle.cv_pool.specs.KindTree.{KindTree}
 use Rattle.cv_syntax_trees.specs.Tree.{Tree, size}
 use Rattle.cv_derive_rules.specs.Truths.{no}
@@ -23,7 +23,7 @@ use Rattle.cv_rule_fresh.specs.collisions.Choices.{choice_above, parameters_at}
 use Rattle.cv_costs.specs.names.Reach.{is_in_scope_at}
 use Rattle.cv_rule_fresh.specs.collisions.Equalities.{current_variable}
 use Rattle.cv_rule_fresh.specs.collisions.Fresh.{either, fresh_row, fresh_step, row_by_choice, row_by_side, row_by_variable}
-use Rattle.cv_rule_fresh.specs.Looks.{IsChosen, IsFalsity, choice_of, later_failure}
+use Rattle.cv_rule_fresh.specs.Looks.{IsFalsity, later_failure}
 use Rattle.cv_rule_fresh.specs.declared.choices.Choice.{Choice}
 
 module _ (s : Scene) (p : ℕ) (m other : Tree) where

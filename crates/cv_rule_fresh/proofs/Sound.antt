@@ -1,5 +1,5 @@
 -- What the step keeps.
-use Rattle.std.proofs.Common.{◌≡◌, ℕ, ◌<◌, ◌*◌, Bool, true, false, Option, Some, None, ◌⊎◌, inl, inr, refl, sym, subst, arith}
+use Rattle.std.proofs.Common.{◌≡◌, ℕ, ◌<◌, true, Option, Some, None, ◌⊎◌, inl, inr, refl, subst, arith}
 use Rattle.cv_syntax_trees.specs.declared.class.Class.TheVariants as class
 use Rattle.cv_syntax_trees.specs.Declarations.{Declaration, Named}
 use Rattle.cv_syntax_trees.specs.Tree.{Tree}
@@ -13,17 +13,14 @@ use Rattle.cv_typing_runs.specs.Games.{HasDeclaredSorts}
 use Rattle.cv_derive_rules.specs.Truths.{no}
 use Rattle.cv_scope_rules.specs.Phrases.{Inputs, Term, is_phrase}
 use Rattle.cv_scene.specs.Scenes.{Scene, is_type_by}
-use Rattle.cv_steps.specs.Rewriting.{has_term_at}
 use Rattle.cv_steps.specs.Steps.{Cost}
 use Rattle.cv_derive_laws.specs.stores.Costs.{bound_of}
-use Rattle.cv_costs.specs.Collisions.{one_for_each}
 use Rattle.cv_derive_laws.specs.stores.Steps.{IsSound}
 use Rattle.cv_steps_laws.proofs.Indices.{Lacks, bound_before, lacking_changed, lacking_term}
 use Rattle.cv_steps_laws.proofs.Keeping.{accepted}
 use Rattle.cv_steps_laws.proofs.Sorts.{declared_rewritten, term_declared}
 use Rattle.cv_steps_laws.proofs.Values.{still_values, type_value, values_put}
 use Rattle.cv_costs.specs.Large.{is_large_by}
-use Rattle.cv_rule_fresh.specs.collisions.Choices.{parameters_at}
 use Rattle.cv_rule_fresh.specs.collisions.Fresh.{fresh_step}
 use Rattle.cv_rule_fresh.proofs.Keeping.{misses}
 use Rattle.cv_rule_fresh.proofs.Leads.{BySide, LeadsFresh, fresh_leads}

@@ -4,7 +4,8 @@ use Rattle.std.proofs.lemmas.Bool.{and_parts, both_ways, not-true, or_parts}
 use Rattle.cv_syntax_trees.specs.declared.head.Head.{Head}
 use Rattle.cv_syntax_trees.specs.declared.head.Head.TheVariants.{Binder, Branch, Call, Cons, Event, Find, If, Key, Let, New, Par}
 use Rattle.cv_syntax_trees.specs.Tree.{Tree, Empty, Node}
-use Rattle.cv_meaning.specs.Tapes.{Cell, New_at, same_cell, same_tuple}
+use Rattle.cv_lists.specs.Options.{first_of}
+use Rattle.cv_meaning.specs.Tapes.{Cell, New_at, same_tuple}
 use Rattle.cv_meaning.specs.Interpretation.{Setting}
 use Rattle.cv_meaning.specs.Runs.{Adversary, Events, Mode, Random, Real}
 use Rattle.cv_meaning.specs.Cells.{at_each_copy, bounds_under, cells, cells_at, coin_cells, if_tested, test_cells, test_cells_at, tuples_below}
@@ -15,23 +16,10 @@ use Rattle.cv_meaning_chances.specs.unread.Sizes.{size_in}
 use Rattle.cv_meaning_chances.proofs.unread.CellSizes.{size_once, still_size, size_each, still_cells, still_tests}
 use Rattle.cv_scope_rules.specs.Made.{is_bound}
 use Rattle.cv_scope_rules.specs.Phrases.{Arm, Binders, Body, Branches, Cells, Nil, Term, Terms, is_phrase}
+use Rattle.cv_steps.proofs.CellSizes.{size_append}
 use Rattle.cv_steps.proofs.Flat.{guarded_of, guards_of, nil_still, term_still, terms_still}
 use Rattle.cv_rule_move.specs.Moving.{defined, first_naming, first_naming_branch, has_bodies, in_bodies, in_branches}
 use Rattle.cv_rule_move.proofs.Parts.{assigned_of, branch_unnamed, branches_of, condition_of, drawn_of, else_of, not_here, then_of, told_of}
-
--- lists
-
-abbrev or_else : Option ℕ → Option ℕ → Option ℕ
-or_else None o = o
-or_else (Some n) o = Some n
-
-size_append : (cs ds : List (Cell × ℕ)) (d : Cell) → size_in (cs ++ ds) d ≡ or_else (size_in cs d) (size_in ds d)
-size_append [] ds d = refl
-size_append (c ∷ cs) ds d = go (same_cell c.0 d) (size_append cs ds d)
-  where
-    go : (b : Bool) → size_in (cs ++ ds) d ≡ or_else (size_in cs d) (size_in ds d) → cond b (Some c.1) (size_in (cs ++ ds) d) ≡ or_else (cond b (Some c.1) (size_in cs d)) (size_in ds d)
-    go true k = refl
-    go false k = k
 
 -- a construct that defines another variable, or none
 abbrev is_other : ℕ → Head → Bool
@@ -49,12 +37,12 @@ module _ (g : Setting) (give : Head → List ℕ → List (Cell × ℕ)) (d : Ce
   abbrev own_size : List ℕ → Head → Option ℕ
   own_size bounds h = size_in (flat_map (give h) (tuples_below bounds)) d
 
-  size_node : (bounds : List ℕ) (h : Head) (a b : Tree) → size_at bounds (Node h a b) ≡ or_else (own_size bounds h) (or_else (size_at (bounds_under g bounds h) a) (size_at (bounds_under g bounds h) b))
+  size_node : (bounds : List ℕ) (h : Head) (a b : Tree) → size_at bounds (Node h a b) ≡ first_of (own_size bounds h) (first_of (size_at (bounds_under g bounds h) a) (size_at (bounds_under g bounds h) b))
   unfolding at_each_copy
   size_node bounds h a b =
       let under : List ℕ = bounds_under g bounds h in
       size_append (flat_map (give h) (tuples_below bounds)) (at_each_copy g give under a ++ at_each_copy g give under b) d
-      ∙ ap (or_else (own_size bounds h)) (size_append (at_each_copy g give under a) (at_each_copy g give under b) d)
+      ∙ ap (first_of (own_size bounds h)) (size_append (at_each_copy g give under a) (at_each_copy g give under b) d)
 
   size_empty : (bounds : List ℕ) → size_at bounds Empty ≡ None
   unfolding at_each_copy
@@ -62,7 +50,7 @@ module _ (g : Setting) (give : Head → List ℕ → List (Cell × ℕ)) (d : Ce
 
   under_node : (bounds : List ℕ) (h : Head) (a b c e : Tree) → size_at (bounds_under g bounds h) a ≡ size_at (bounds_under g bounds h) c → size_at (bounds_under g bounds h) b ≡ size_at (bounds_under g bounds h) e
       → size_at bounds (Node h a b) ≡ size_at bounds (Node h c e)
-  under_node bounds h a b c e x y = size_node bounds h a b ∙ ap₂ (λ o q. or_else (own_size bounds h) (or_else o q)) x y ∙ sym (size_node bounds h c e)
+  under_node bounds h a b c e x y = size_node bounds h a b ∙ ap₂ (λ o q. first_of (own_size bounds h) (first_of o q)) x y ∙ sym (size_node bounds h c e)
 
   -- so it is of whole games
 
@@ -91,18 +79,18 @@ module _ (g : Setting) (give : Head → List ℕ → List (Cell × ℕ)) (d : Ce
     flat t e = still_size g give d still bounds t e
 
     -- a node of a construct that gives nothing itself
-    passed : (h : Head) (a b : Tree) → head_is_still h ≡ true → bounds_under g bounds h ≡ bounds → size_at bounds (Node h a b) ≡ or_else (size_at bounds a) (size_at bounds b)
-    passed h a b e r = size_node bounds h a b ∙ (λ i. or_else (own_still h e i) (or_else (size_at (r i) a) (size_at (r i) b)))
+    passed : (h : Head) (a b : Tree) → head_is_still h ≡ true → bounds_under g bounds h ≡ bounds → size_at bounds (Node h a b) ≡ first_of (size_at bounds a) (size_at bounds b)
+    passed h a b e r = size_node bounds h a b ∙ (λ i. first_of (own_still h e i) (first_of (size_at (r i) a) (size_at (r i) b)))
 
     -- and a construct of which the first child gives nothing
-    before : (h : Head) (a b : Tree) → is_still a ≡ true → bounds_under g bounds h ≡ bounds → size_at bounds (Node h a b) ≡ or_else (own_size bounds h) (size_at bounds b)
-    before h a b e r = size_node bounds h a b ∙ (λ i. or_else (own_size bounds h) (or_else (size_at (r i) a) (size_at (r i) b))) ∙ ap (λ o. or_else (own_size bounds h) (or_else o (size_at bounds b))) (flat a e)
+    before : (h : Head) (a b : Tree) → is_still a ≡ true → bounds_under g bounds h ≡ bounds → size_at bounds (Node h a b) ≡ first_of (own_size bounds h) (size_at bounds b)
+    before h a b e r = size_node bounds h a b ∙ (λ i. first_of (own_size bounds h) (first_of (size_at (r i) a) (size_at (r i) b))) ∙ ap (λ o. first_of (own_size bounds h) (first_of o (size_at bounds b))) (flat a e)
 
-    arm_size : (us listed c body : Tree) → is_still listed ≡ true → is_still c ≡ true → size_at bounds (Node Branch us (Node Cons listed (Node Cons c body))) ≡ or_else (size_at bounds us) (size_at bounds body)
+    arm_size : (us listed c body : Tree) → is_still listed ≡ true → is_still c ≡ true → size_at bounds (Node Branch us (Node Cons listed (Node Cons c body))) ≡ first_of (size_at bounds us) (size_at bounds body)
     arm_size us listed c body e f =
         passed Branch us (Node Cons listed (Node Cons c body)) refl refl
-        ∙ ap (or_else (size_at bounds us)) (
-        passed Cons listed (Node Cons c body) refl refl ∙ ap₂ or_else (flat listed e) (passed Cons c body refl refl ∙ ap (λ o. or_else o (size_at bounds body)) (flat c f)))
+        ∙ ap (first_of (size_at bounds us)) (
+        passed Cons listed (Node Cons c body) refl refl ∙ ap₂ first_of (flat listed e) (passed Cons c body refl refl ∙ ap (λ o. first_of o (size_at bounds body)) (flat c f)))
 
     module _ (h : Head) (a : Tree) (x : ℕ) (bare : is_still a ≡ true) (same : bounds_under g bounds h ≡ bounds) where
       abbrev own : Option ℕ
@@ -111,37 +99,37 @@ module _ (g : Setting) (give : Head → List ℕ → List (Cell × ℕ)) (d : Ce
       abbrev put : Tree → Tree
       put b = Node h a b
 
-      behind : (b : Tree) → size_at bounds (Node h a b) ≡ or_else own (size_at bounds b)
+      behind : (b : Tree) → size_at bounds (Node h a b) ≡ first_of own (size_at bounds b)
       behind b = before h a b bare same
 
       -- one body
 
-      swapped : (o q r : Option ℕ) → (o ≡ None) ⊎ (q ≡ None) → or_else o (or_else q r) ≡ or_else q (or_else o r)
-      swapped o q r (inl e) = ap (λ z. or_else z (or_else q r)) e ∙ ap (λ z. or_else q (or_else z r)) (sym e)
-      swapped o q r (inr e) = ap (λ z. or_else o (or_else z r)) e ∙ ap (λ z. or_else z (or_else o r)) (sym e)
+      swapped : (o q r : Option ℕ) → (o ≡ None) ⊎ (q ≡ None) → first_of o (first_of q r) ≡ first_of q (first_of o r)
+      swapped o q r (inl e) = ap (λ z. first_of z (first_of q r)) e ∙ ap (λ z. first_of q (first_of z r)) (sym e)
+      swapped o q r (inr e) = ap (λ z. first_of o (first_of z r)) e ∙ ap (λ z. first_of z (first_of o r)) (sym e)
 
       one_body : (kh : Head) (ka b : Tree) → is_still ka ≡ true → bounds_under g bounds kh ≡ bounds → (own ≡ None) ⊎ (own_size bounds kh ≡ None) → size_at bounds (Node h a (Node kh ka b)) ≡ size_at bounds (Node kh ka (Node h a b))
       one_body kh ka b e r z =
-          behind (Node kh ka b) ∙ ap (or_else own) (before kh ka b e r)
+          behind (Node kh ka b) ∙ ap (first_of own) (before kh ka b e r)
           ∙ swapped own (own_size bounds kh) (size_at bounds b) z
-          ∙ sym (before kh ka (Node h a b) e r ∙ ap (or_else (own_size bounds kh)) (behind b))
+          ∙ sym (before kh ka (Node h a b) e r ∙ ap (first_of (own_size bounds kh)) (behind b))
 
       -- two bodies
 
-      twice : (o q r n : Option ℕ) → or_else o (or_else q (or_else r n)) ≡ or_else (or_else o q) (or_else (or_else o r) n)
+      twice : (o q r n : Option ℕ) → first_of o (first_of q (first_of r n)) ≡ first_of (first_of o q) (first_of (first_of o r) n)
       twice None q r n = refl
       twice (Some v) q r n = refl
 
-      if_size : (c t e n : Tree) → is_still c ≡ true → size_at bounds (Node If c (Node Cons t (Node Cons e n))) ≡ or_else (size_at bounds t) (or_else (size_at bounds e) (size_at bounds n))
+      if_size : (c t e n : Tree) → is_still c ≡ true → size_at bounds (Node If c (Node Cons t (Node Cons e n))) ≡ first_of (size_at bounds t) (first_of (size_at bounds e) (size_at bounds n))
       if_size c t e n s =
           passed If c (Node Cons t (Node Cons e n)) refl refl
-          ∙ ap₂ or_else (flat c s) (passed Cons t (Node Cons e n) refl refl ∙ ap (or_else (size_at bounds t)) (passed Cons e n refl refl))
+          ∙ ap₂ first_of (flat c s) (passed Cons t (Node Cons e n) refl refl ∙ ap (first_of (size_at bounds t)) (passed Cons e n refl refl))
 
       two_bodies : (c t e n : Tree) → is_still c ≡ true → size_at bounds (Node h a (Node If c (Node Cons t (Node Cons e n)))) ≡ size_at bounds (Node If c (Node Cons (Node h a t) (Node Cons (Node h a e) n)))
       two_bodies c t e n s =
-          behind (Node If c (Node Cons t (Node Cons e n))) ∙ ap (or_else own) (if_size c t e n s)
+          behind (Node If c (Node Cons t (Node Cons e n))) ∙ ap (first_of own) (if_size c t e n s)
           ∙ twice own (size_at bounds t) (size_at bounds e) (size_at bounds n)
-          ∙ sym (if_size c (Node h a t) (Node h a e) n s ∙ ap₂ (λ o q. or_else o (or_else q (size_at bounds n))) (behind t) (behind e))
+          ∙ sym (if_size c (Node h a t) (Node h a e) n s ∙ ap₂ (λ o q. first_of o (first_of q (size_at bounds n))) (behind t) (behind e))
 
       -- the branches of a `find`
 
@@ -151,14 +139,14 @@ module _ (g : Setting) (give : Head → List ℕ → List (Cell × ℕ)) (d : Ce
             under_node bounds Cons (Node Branch us (Node Cons listed (Node Cons c b))) more (Node Branch us (Node Cons listed (Node Cons c (put b)))) (in_branches put more)
             (under_node bounds Branch us (Node Cons listed (Node Cons c b)) us (Node Cons listed (Node Cons c (put b))) refl
             (under_node bounds Cons listed (Node Cons c b) listed (Node Cons c (put b)) refl
-            (under_node bounds Cons c b c (put b) refl (sym (behind b ∙ ap (λ o. or_else o (size_at bounds b)) none)))))
+            (under_node bounds Cons c b c (put b) refl (sym (behind b ∙ ap (λ o. first_of o (size_at bounds b)) none)))))
             (branches_none more)
         branches_none bs = refl
 
         find_none : (l : ℕ) (bs e : Tree) → size_at bounds (Node h a (Node (Find l) bs e)) ≡ size_at bounds (Node (Find l) (in_branches put bs) (Node h a e))
         find_none l bs e =
-            behind (Node (Find l) bs e) ∙ ap (λ o. or_else o (size_at bounds (Node (Find l) bs e))) none
-            ∙ under_node bounds (Find l) bs e (in_branches put bs) (Node h a e) (branches_none bs) (sym (behind e ∙ ap (λ o. or_else o (size_at bounds e)) none))
+            behind (Node (Find l) bs e) ∙ ap (λ o. first_of o (size_at bounds (Node (Find l) bs e))) none
+            ∙ under_node bounds (Find l) bs e (in_branches put bs) (Node h a e) (branches_none bs) (sym (behind e ∙ ap (λ o. first_of o (size_at bounds e)) none))
 
       module _ (others : (k : Head) → is_other x k ≡ true → own_size bounds k ≡ None) where
         unequal : (y : ℕ) → (x == y) ≡ false → not (y == x) ≡ true
@@ -175,13 +163,13 @@ module _ (g : Setting) (give : Head → List ℕ → List (Cell × ℕ)) (d : Ce
             let p = and_parts (is_phrase Nil i) _ e in
             let q = or_parts (x == y) (is_bound b x) f in
             size_node bounds (Binder y T) i b
-            ∙ (λ j. or_else (others (Binder y T) (unequal y q.0) j) (or_else (flat i (nil_still i p.0) j) (binders_size b p.1 q.1 j)))
+            ∙ (λ j. first_of (others (Binder y T) (unequal y q.0) j) (first_of (flat i (nil_still i p.0) j) (binders_size b p.1 q.1 j)))
         binders_size us e f = absurd (both_ways false refl e)
 
         module _ (v : ℕ) (some : own ≡ Some v) where
-          branches_some : (c : ℕ) (bs : Tree) → is_phrase Branches bs ≡ true → first_naming_branch x c bs ≡ None → or_else (size_at bounds (in_branches put bs)) (Some v) ≡ Some v
+          branches_some : (c : ℕ) (bs : Tree) → is_phrase Branches bs ≡ true → first_naming_branch x c bs ≡ None → first_of (size_at bounds (in_branches put bs)) (Some v) ≡ Some v
           unfolding is_phrase
-          branches_some c Empty e f = ap (λ o. or_else o (Some v)) (size_empty bounds)
+          branches_some c Empty e f = ap (λ o. first_of o (Some v)) (size_empty bounds)
           branches_some c (Node Cons (Node Branch us (Node Cons listed (Node Cons m b))) more) e f =
               let n = branch_unnamed x c us listed m b more f in
               let q = and_parts (is_phrase Arm (Node Branch us (Node Cons listed (Node Cons m b)))) _ e in
@@ -190,18 +178,18 @@ module _ (g : Setting) (give : Head → List ℕ → List (Cell × ℕ)) (d : Ce
               let z = and_parts (is_phrase Term m) _ w.1 in
               let arm : size_at bounds (Node Branch us (Node Cons listed (Node Cons m (put b)))) ≡ Some v =
               arm_size us listed m (put b) (terms_still Cells listed refl w.0) (term_still m z.0)
-              ∙ ap₂ or_else (binders_size us r.0 n.bound) (behind b ∙ ap (λ o. or_else o (size_at bounds b)) some) in
-              ap (λ o. or_else o (Some v)) (passed Cons (Node Branch us (Node Cons listed (Node Cons m (put b)))) (in_branches put more) refl refl ∙ ap (λ o. or_else o (size_at bounds (in_branches put more))) arm)
+              ∙ ap₂ first_of (binders_size us r.0 n.bound) (behind b ∙ ap (λ o. first_of o (size_at bounds b)) some) in
+              ap (λ o. first_of o (Some v)) (passed Cons (Node Branch us (Node Cons listed (Node Cons m (put b)))) (in_branches put more) refl refl ∙ ap (λ o. first_of o (size_at bounds (in_branches put more))) arm)
           branches_some c (Node Cons (Node Branch us (Node Cons listed rest)) more) e f = absurd (both_ways false refl (guarded_of us listed rest more e))
           branches_some c (Node Cons (Node Branch us rest) more) e f = absurd (both_ways false refl (guards_of us rest more e))
           branches_some c bs e f = absurd (both_ways false refl e)
 
           find_some : (l c : ℕ) (bs e : Tree) → is_phrase Branches bs ≡ true → first_naming_branch x c bs ≡ None → size_at bounds (Node h a (Node (Find l) bs e)) ≡ size_at bounds (Node (Find l) (in_branches put bs) (Node h a e))
           find_some l c bs e w f =
-              behind (Node (Find l) bs e) ∙ ap (λ o. or_else o (size_at bounds (Node (Find l) bs e))) some
+              behind (Node (Find l) bs e) ∙ ap (λ o. first_of o (size_at bounds (Node (Find l) bs e))) some
               ∙ sym (
               size_node bounds (Find l) (in_branches put bs) (put e)
-              ∙ ap₂ (λ o q. or_else o (or_else (size_at bounds (in_branches put bs)) q)) (others (Find l) refl) (behind e ∙ ap (λ o. or_else o (size_at bounds e)) some)
+              ∙ ap₂ (λ o q. first_of o (first_of (size_at bounds (in_branches put bs)) q)) (others (Find l) refl) (behind e ∙ ap (λ o. first_of o (size_at bounds e)) some)
               ∙ branches_some c bs w f)
 
       -- whatever the construct is
@@ -292,12 +280,12 @@ definition_bounds g bounds (New y T) a b x e = refl
 definition_bounds g bounds (Let y T) a b x e = refl
 definition_bounds g bounds h a b x e = absurd (cc)
 
-all_sizes : (g : Setting) (m : Mode) (adversary : Adversary) (d : Cell) (game : Tree) → size_in (cells g m adversary game) d ≡ or_else (size_in (at_each_copy g (cells_at g) [] game) d) (or_else (size_in (test_cells g m game) d) (size_in (coin_cells 0 adversary.coins) d))
+all_sizes : (g : Setting) (m : Mode) (adversary : Adversary) (d : Cell) (game : Tree) → size_in (cells g m adversary game) d ≡ first_of (size_in (at_each_copy g (cells_at g) [] game) d) (first_of (size_in (test_cells g m game) d) (size_in (coin_cells 0 adversary.coins) d))
 unfolding cells
 all_sizes g m adversary d game =
     size_once (at_each_copy g (cells_at g) [] game ++ (test_cells g m game ++ coin_cells 0 adversary.coins)) d
     ∙ size_append (at_each_copy g (cells_at g) [] game) (test_cells g m game ++ coin_cells 0 adversary.coins) d
-    ∙ ap (or_else (size_in (at_each_copy g (cells_at g) [] game) d)) (size_append (test_cells g m game) (coin_cells 0 adversary.coins) d)
+    ∙ ap (first_of (size_in (at_each_copy g (cells_at g) [] game) d)) (size_append (test_cells g m game) (coin_cells 0 adversary.coins) d)
 
 -- a definition, and the construct behind it, which names the variable in its bodies alone
 pub record MayMove (h : Head) (a construct : Tree) (x c : ℕ) : Type 0 where
@@ -322,5 +310,5 @@ module _ (g : Setting) (h : Head) (a construct : Tree) (x c : ℕ) (r : MayMove 
   pub moved_sizes : (m : Mode) (adversary : Adversary) → size_in (cells g m adversary game) d ≡ size_in (cells g m adversary next) d
   moved_sizes m adversary =
       all_sizes g m adversary d game
-      ∙ ap₂ (λ o q. or_else o (or_else q (size_in (coin_cells 0 adversary.coins) d))) (same_size (cells_at g) (still_cells g d) (λ bounds. cells_kind g x d bounds h a construct r.defines)) (same_tests m)
+      ∙ ap₂ (λ o q. first_of o (first_of q (size_in (coin_cells 0 adversary.coins) d))) (same_size (cells_at g) (still_cells g d) (λ bounds. cells_kind g x d bounds h a construct r.defines)) (same_tests m)
       ∙ sym (all_sizes g m adversary d next)

@@ -102,7 +102,12 @@ fn places_of(
 }
 
 /// A variable whose cells are compared: the first one, where so many are passed over.
-fn repeated(decls: &Decls, overview: &Overview, counts: &Counts, left: &mut u32) -> Option<u32> {
+fn birthday_variable(
+    decls: &Decls,
+    overview: &Overview,
+    counts: &Counts,
+    left: &mut u32,
+) -> Option<u32> {
     for x in overview.variables.order() {
         if counts.get(*x).both > 0 && is_chosen(decls, overview.variables.get(*x)) {
             if *left == 0 {
@@ -115,7 +120,7 @@ fn repeated(decls: &Decls, overview: &Overview, counts: &Counts, left: &mut u32)
 }
 
 /// A variable that is read in equalities alone, and of which no query asks: the first one, where so many are passed over.
-fn guessed(
+fn guess_variable(
     decls: &Decls,
     overview: &Overview,
     counts: &Counts,
@@ -147,7 +152,7 @@ fn is_missed(decls: &Decls, overview: &Overview, choice: &Choice) -> bool {
 }
 
 /// The place of an equality with what was known before: the first one, where so many are passed over.
-fn missed(decls: &Decls, overview: &Overview, left: &mut u32) -> Option<u32> {
+fn fresh_place(decls: &Decls, overview: &Overview, left: &mut u32) -> Option<u32> {
     for seen in &overview.comparisons {
         if seen.choices.iter().any(|c| is_missed(decls, overview, c)) {
             if *left == 0 {
@@ -168,15 +173,15 @@ pub(crate) fn find(
     left: &mut u32,
 ) -> Result<Option<Proposal>, AllocError> {
     let counts = Counts::of(alloc, &overview.comparisons)?;
-    if let Some(x) = repeated(decls, overview, &counts, left) {
+    if let Some(x) = birthday_variable(decls, overview, &counts, left) {
         let at = places_of(alloc, overview, x, true)?;
         return Ok(Some(Proposal::Birthday { x: NameId(x), at }));
     }
-    if let Some(x) = guessed(decls, overview, &counts, queried, left) {
+    if let Some(x) = guess_variable(decls, overview, &counts, queried, left) {
         let at = places_of(alloc, overview, x, false)?;
         return Ok(Some(Proposal::Guess { x: NameId(x), at }));
     }
-    match missed(decls, overview, left) {
+    match fresh_place(decls, overview, left) {
         Some(place) => Ok(Some(Proposal::Fresh {
             place: u64::from(place),
         })),

@@ -6,3 +6,4 @@ pub mod Pruned
 pub mod Places
 pub mod Rewritten
 pub mod Sizes
+pub mod CellSizes

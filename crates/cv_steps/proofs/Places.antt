@@ -78,11 +78,11 @@ is_bare Cells = true
 is_bare OneCell = true
 is_bare σ = false
 
-record AreBare (q : Phrase × Phrase) : Type 0 where
-  first : is_bare q.0 ≡ true
-  second : is_bare q.1 ≡ true
+pub record AreBare (q : Phrase × Phrase) : Type 0 where
+  pub first : is_bare q.0 ≡ true
+  pub second : is_bare q.1 ≡ true
 
-parts_bare : (σ : Phrase) (h : Head) → is_bare σ ≡ true → AreBare (parts_of σ h)
+pub parts_bare : (σ : Phrase) (h : Head) → is_bare σ ≡ true → AreBare (parts_of σ h)
 parts_bare Nil (Read x) e = record { first = refl; second = refl }
 parts_bare Nil h e = record { first = refl; second = refl }
 parts_bare Pattern (Read x) e = record { first = refl; second = refl }
@@ -102,7 +102,7 @@ parts_bare OneCell (Leaf x) e = record { first = refl; second = refl }
 parts_bare OneCell h e = record { first = refl; second = refl }
 parts_bare σ h e = absurd (both_ways false refl e)
 
-bare_is_no_term : (σ : Phrase) → is_bare σ ≡ true → is_term σ ≡ false
+pub bare_is_no_term : (σ : Phrase) → is_bare σ ≡ true → is_term σ ≡ false
 bare_is_no_term Term e = absurd (both_ways false refl e)
 bare_is_no_term σ e = refl
 

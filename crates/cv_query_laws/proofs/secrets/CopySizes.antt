@@ -7,6 +7,7 @@ use Rattle.cv_syntax_trees.specs.declared.head.Head.{Head}
 use Rattle.cv_syntax_trees.specs.declared.head.Head.TheVariants.{New, Let, Binder}
 use Rattle.cv_syntax_trees.specs.Declarations.{Declaration}
 use Rattle.cv_syntax_trees.specs.Tree.{Tree, Empty, Node}
+use Rattle.cv_lists.specs.Options.{first_of}
 use Rattle.cv_meaning.specs.Tapes.{Cell, New_at, Test_at, is_in, same_tuple}
 use Rattle.cv_meaning.specs.Interpretation.{Interpretation, Setting, setting_of}
 use Rattle.cv_meaning.specs.Runs.{Random, Adversary}
@@ -30,9 +31,10 @@ use Rattle.cv_query_laws.proofs.secrets.Alone.{AreOdd, none_odd}
 use Rattle.cv_query_laws.proofs.secrets.Copies.{HaveOneSort}
 use Rattle.cv_query_laws.proofs.secrets.Places.{sized_is_in}
 use Rattle.cv_costs.proofs.quiet.Shapes.{left_false}
-use Rattle.cv_query_laws.proofs.secrets.Sizes.{Give, cells_size, draws_apart, no_coin, none_in_copies, or_else, parts_size, size_append, tests_apart}
+use Rattle.cv_query_laws.proofs.secrets.Sizes.{Give, cells_size, draws_apart, no_coin, none_in_copies, parts_size, tests_apart}
 use Rattle.cv_query_laws.proofs.secrets.Swaps.{one_size}
 use Rattle.cv_lists.proofs.Tests.{differ_comm}
+use Rattle.cv_steps.proofs.CellSizes.{size_append}
 use Rattle.cv_meaning_chances.proofs.unread.CellSizes.{coins_apart}
 
 -- each `let` is of the type of its variable
@@ -73,7 +75,7 @@ is_none n m e = absurd (cc)
 is_some_number : (n m : ℕ) → m ≡ n → Is n (Some m)
 is_some_number n m e k f = let g : m ≡ k = cc in sym g ∙ e
 
-is_else : (n : ℕ) (o q : Option ℕ) → Is n o → Is n q → Is n (or_else o q)
+is_else : (n : ℕ) (o q : Option ℕ) → Is n o → Is n q → Is n (first_of o q)
 is_else n None q e f = f
 is_else n (Some m) q e f = e
 

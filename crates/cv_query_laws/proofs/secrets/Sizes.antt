@@ -5,6 +5,7 @@ use Rattle.cv_syntax_trees.specs.Declarations.{Declaration}
 use Rattle.cv_syntax_trees.specs.declared.head.Head.{Head}
 use Rattle.cv_syntax_trees.specs.declared.head.Head.TheVariants.{New, Let, Binder}
 use Rattle.cv_syntax_trees.specs.Tree.{Tree, Empty, Node}
+use Rattle.cv_lists.specs.Options.{first_of}
 use Rattle.cv_meaning.specs.Tapes.{Cell, New_at, Find_at, Test_at, Key_at, Made_at, Picked_at, Coin, same_cell, same_tuple}
 use Rattle.cv_meaning.specs.Interpretation.{Interpretation, Setting, setting_of}
 use Rattle.cv_meaning.specs.Runs.{Random, Adversary}
@@ -21,48 +22,33 @@ use Rattle.cv_query_laws.specs.secrets.Exchanged.{exchanged}
 use Rattle.cv_query_laws.proofs.secrets.Alone.{AreOdd, game_has_none, none_odd}
 use Rattle.cv_costs.proofs.quiet.Shapes.{left_false}
 use Rattle.cv_lists.proofs.Tests.{differ_comm}
+use Rattle.cv_steps.proofs.CellSizes.{first_none, size_append}
 
 -- lists
-
-abbrev pub or_else : Option ℕ → Option ℕ → Option ℕ
-or_else None o = o
-or_else (Some n) o = Some n
-
-pub or_none : (o : Option ℕ) → or_else o None ≡ o
-or_none None = refl
-or_none (Some n) = refl
-
-pub size_append : (cs ds : List (Cell × ℕ)) (d : Cell) → size_in (cs ++ ds) d ≡ or_else (size_in cs d) (size_in ds d)
-size_append [] ds d = refl
-size_append (c ∷ cs) ds d = go (same_cell c.0 d) (size_append cs ds d)
-  where
-    go : (b : Bool) → size_in (cs ++ ds) d ≡ or_else (size_in cs d) (size_in ds d) → cond b (Some c.1) (size_in (cs ++ ds) d) ≡ or_else (cond b (Some c.1) (size_in cs d)) (size_in ds d)
-    go true k = refl
-    go false k = k
 
 -- the size of a cell among those of a list of copies is that of another cell among other ones
 size_each : {A : Type 0} (f h : A → List (Cell × ℕ)) (d e : Cell) → ((x : A) → size_in (f x) d ≡ size_in (h x) e) → (xs : List A) → size_in (flat_map f xs) d ≡ size_in (flat_map h xs) e
 size_each f h d e k [] = refl
-size_each f h d e k (x ∷ xs) = size_append (f x) (flat_map f xs) d ∙ ap₂ or_else (k x) (size_each f h d e k xs) ∙ sym (size_append (h x) (flat_map h xs) e)
+size_each f h d e k (x ∷ xs) = size_append (f x) (flat_map f xs) d ∙ ap₂ first_of (k x) (size_each f h d e k xs) ∙ sym (size_append (h x) (flat_map h xs) e)
 
 module _ (g : Setting) where
   abbrev pub Give : Type 0
   Give = Head → List ℕ → List (Cell × ℕ)
 
   pub parts_size : (give : Give) (d : Cell) (bounds : List ℕ) (h : Head) (a b : Tree) → size_in (at_each_copy g give bounds (Node h a b)) d
-      ≡ or_else (size_in (flat_map (give h) (tuples_below bounds)) d) (or_else (size_in (at_each_copy g give (bounds_under g bounds h) a) d) (size_in (at_each_copy g give (bounds_under g bounds h) b) d))
+      ≡ first_of (size_in (flat_map (give h) (tuples_below bounds)) d) (first_of (size_in (at_each_copy g give (bounds_under g bounds h) a) d) (size_in (at_each_copy g give (bounds_under g bounds h) b) d))
   unfolding at_each_copy
   parts_size give d bounds h a b =
       let under : List ℕ = bounds_under g bounds h in
       size_append (flat_map (give h) (tuples_below bounds)) (at_each_copy g give under a ++ at_each_copy g give under b) d
-      ∙ ap (or_else (size_in (flat_map (give h) (tuples_below bounds)) d)) (size_append (at_each_copy g give under a) (at_each_copy g give under b) d)
+      ∙ ap (first_of (size_in (flat_map (give h) (tuples_below bounds)) d)) (size_append (at_each_copy g give under a) (at_each_copy g give under b) d)
 
   pub none_in_copies : (give : Give) (d : Cell) → ((h : Head) (u : List ℕ) → size_in (give h u) d ≡ None) → (bounds : List ℕ) (b : Tree) → size_in (at_each_copy g give bounds b) d ≡ None
   unfolding at_each_copy
   none_in_copies give d k bounds Empty = refl
   none_in_copies give d k bounds (Node h a b) =
       parts_size give d bounds h a b
-      ∙ (λ i. or_else (none_listed (give h) d (k h) (tuples_below bounds) i) (or_else (none_in_copies give d k (bounds_under g bounds h) a i) (none_in_copies give d k (bounds_under g bounds h) b i)))
+      ∙ (λ i. first_of (none_listed (give h) d (k h) (tuples_below bounds) i) (first_of (none_in_copies give d k (bounds_under g bounds h) a i) (none_in_copies give d k (bounds_under g bounds h) b i)))
 
   no_test : (y : ℕ) (v : List ℕ) (b : Bool) (u : List ℕ) (n : ℕ) → size_in (if_tested b u n) (New_at y v) ≡ None
   no_test y v true u n = refl
@@ -129,7 +115,7 @@ module _ (x : ℕ) where
         let l = and_parts (none_odd binds_otherwise a) (none_odd binds_otherwise b) k.1 in
         let under : List ℕ = bounds_under g bounds h in
         parts_size g (cells_at g) (New_at x v) bounds h a b
-        ∙ (λ j. or_else (size_each (cells_at g h) (test_cells_at g x h) (New_at x v) (Test_at v) (node_size h k.0) (tuples_below bounds) j) (or_else (tree_size under a l.0 j) (tree_size under b l.1 j)))
+        ∙ (λ j. first_of (size_each (cells_at g h) (test_cells_at g x h) (New_at x v) (Test_at v) (node_size h k.0) (tuples_below bounds) j) (first_of (tree_size under a l.0 j) (tree_size under b l.1 j)))
         ∙ sym (parts_size g (test_cells_at g x) (Test_at v) bounds h a b)
 
     pub draws_apart : (h : Head) (u : List ℕ) → size_in (cells_at g h u) (Test_at v) ≡ None
@@ -141,12 +127,12 @@ module _ (x : ℕ) where
       all_cells = cells g (Random one x) a game
 
       pub cells_size : (d : Cell) → size_in all_cells d
-          ≡ or_else (size_in (at_each_copy g (cells_at g) [] game) d) (or_else (size_in (at_each_copy g (test_cells_at g x) [] game) d) (size_in (coin_cells 0 a.coins) d))
+          ≡ first_of (size_in (at_each_copy g (cells_at g) [] game) d) (first_of (size_in (at_each_copy g (test_cells_at g x) [] game) d) (size_in (coin_cells 0 a.coins) d))
       unfolding cells
       cells_size d =
           size_once (at_each_copy g (cells_at g) [] game ++ (at_each_copy g (test_cells_at g x) [] game ++ coin_cells 0 a.coins)) d
           ∙ size_append (at_each_copy g (cells_at g) [] game) (at_each_copy g (test_cells_at g x) [] game ++ coin_cells 0 a.coins) d
-          ∙ ap (or_else (size_in (at_each_copy g (cells_at g) [] game) d)) (size_append (at_each_copy g (test_cells_at g x) [] game) (coin_cells 0 a.coins) d)
+          ∙ ap (first_of (size_in (at_each_copy g (cells_at g) [] game) d)) (size_append (at_each_copy g (test_cells_at g x) [] game) (coin_cells 0 a.coins) d)
 
       pub one_size : none_odd binds_otherwise game ≡ true → size_in all_cells (New_at x v) ≡ size_in all_cells (Test_at v)
       one_size e =
@@ -154,9 +140,9 @@ module _ (x : ℕ) where
           let tests : Option ℕ = size_in (at_each_copy g (test_cells_at g x) [] game) (Test_at v) in
           let same : draws ≡ tests = tree_size [] game e in
           cells_size (New_at x v)
-          ∙ (λ j. or_else draws (or_else (none_in_copies g (test_cells_at g x) (New_at x v) (tests_apart g x x v) [] game j) (coins_apart 0 a.coins x v j)))
-          ∙ or_none draws ∙ same ∙ sym (or_none tests)
-          ∙ sym (cells_size (Test_at v) ∙ (λ j. or_else (none_in_copies g (cells_at g) (Test_at v) draws_apart [] game j) (or_else tests (no_coin 0 a.coins v j))))
+          ∙ (λ j. first_of draws (first_of (none_in_copies g (test_cells_at g x) (New_at x v) (tests_apart g x x v) [] game j) (coins_apart 0 a.coins x v j)))
+          ∙ first_none draws ∙ same ∙ sym (first_none tests)
+          ∙ sym (cells_size (Test_at v) ∙ (λ j. first_of (none_in_copies g (cells_at g) (Test_at v) draws_apart [] game j) (first_of tests (no_coin 0 a.coins v j))))
 
   -- so each cell has the size of the one with which it changes places
   exchanged_size : (ds : List Declaration) (i : Interpretation) (one : Bool) (a : Adversary) (game : Tree) → none_odd binds_otherwise game ≡ true → (d : Cell)

@@ -1,11 +1,10 @@
 -- What is planned: whole games, and the change with its cost.
-use Rattle.std.proofs.Common.{◌≡◌, ℕ, ◌+◌, ◌<◌, ◌≤◌, Bool, true, false, cond, List, [], ◌∷◌, length, Option, Some, refl, sym, ap, subst, ◌∙◌, arith}
-use Rattle.std.proofs.lemmas.Bool.{and_parts, both_ways}
+use Rattle.std.proofs.Common.{◌≡◌, ℕ, ◌≤◌, true, false, cond, List, [], ◌∷◌, length, Some, sym, ap, subst, ◌∙◌, arith}
+use Rattle.std.proofs.lemmas.Bool.{and_parts}
 use Rattle.std.specs.Prelude.{◌||◌}
 use Rattle.std.specs.List.{list_all}
 use Rattle.cv_pool.specs.KindTree.{KindTree}
-use Rattle.cv_syntax_trees.specs.declared.head.Head.TheVariants.{In, Par, Repl, Stop}
-use Rattle.cv_syntax_trees.specs.Tree.{Tree, Empty, Node, size}
+use Rattle.cv_syntax_trees.specs.Tree.{size}
 use Rattle.cv_bound.specs.Sums.{coefficients, terms_of}
 use Rattle.cv_meaning.specs.Replaced.{replaced}
 use Rattle.cv_scope_rules.specs.Phrases.{Inputs, is_phrase}
@@ -19,45 +18,28 @@ use Rattle.cv_costs.specs.Large.{are_increasing}
 use Rattle.cv_scene.specs.Scenes.{Scene, has_place, names}
 use Rattle.cv_steps.specs.Costs.{cost_of}
 use Rattle.cv_steps.specs.Steps.{Leads}
-use Rattle.cv_rule_birthday.specs.guess.Guessing.{one_of, without_guesses}
+use Rattle.cv_rule_birthday.specs.Conditions.{stands_at_places}
+use Rattle.cv_rule_birthday.specs.Comparing.{is_one_of}
+use Rattle.cv_rule_birthday.specs.guess.Guessing.{without_guesses}
 use Rattle.cv_rule_birthday.specs.guess.Needs.{made_without_guesses}
-use Rattle.cv_rule_birthday.specs.guess.Row.{cost_at, guess_row, guess_step, stands_guess}
+use Rattle.cv_rule_birthday.specs.guess.Row.{cost_at, guess_row, guess_step}
+use Rattle.cv_rule_birthday.proofs.Roots.{game_there, root_replaced}
 use Rattle.cv_rule_birthday.proofs.guess.Terms.{as_many_terms, few_places}
 use Rattle.cv_rule_birthday.proofs.guess.Walks.{not_larger}
 
--- the first place of a game is its root
-
-whole : (t new : Tree) → is_phrase Inputs t ≡ true → replaced t 0 new ≡ new
-unfolding is_phrase replaced
-whole Empty new e = absurd (both_ways false refl e)
-whole (Node Stop a b) new e = refl
-whole (Node Par a b) new e = refl
-whole (Node (Repl i n) a b) new e = refl
-whole (Node (In c) a b) new e = refl
-whole (Node h a b) new e = absurd (both_ways false refl e)
-
-rooted : (t : Tree) → is_phrase Inputs t ≡ true → 0 < size t
-unfolding is_phrase size
-rooted Empty e = absurd (both_ways false refl e)
-rooted (Node Stop a b) e = omega arith
-rooted (Node Par a b) e = omega arith
-rooted (Node (Repl i n) a b) e = omega arith
-rooted (Node (In c) a b) e = omega arith
-rooted (Node h a b) e = absurd (both_ways false refl e)
-
 module _ (s : Scene) (x : ℕ) (ps : List ℕ) where
-  pub few : stands_guess s x ps ≡ true → length ps ≤ size s.game
+  pub few : stands_at_places s x ps ≡ true → length ps ≤ size s.game
   few e =
       let r = and_parts (list_all (has_place s) ps) (are_increasing ps) (and_parts (s.known x || names x s.game) _ e).1 in
       few_places s ps r.0 r.1
 
-  pub nothing_there : stands_guess s x ps ≡ false → failure_of s (guess_step x ps) ≡ Some (failed 0 0)
+  pub nothing_there : stands_at_places s x ps ≡ false → failure_of s (guess_step x ps) ≡ Some (failed 0 0)
   nothing_there e = ap (λ v. cond v (failing (guess_row s x ps)) (Some (failed 0 0))) e
 
-  pub unplanned : (f : Failure) → stands_guess s x ps ≡ true → failing (guess_row s x ps) ≡ Some f → failure_of s (guess_step x ps) ≡ Some f
+  pub unplanned : (f : Failure) → stands_at_places s x ps ≡ true → failing (guess_row s x ps) ≡ Some f → failure_of s (guess_step x ps) ≡ Some f
   unplanned f e g = ap (λ v. cond v (failing (guess_row s x ps)) (Some (failed 0 0))) e ∙ g
 
-  pub planned : (trees : List KindTree) (T : ℕ) (parts : Parts) (priced : Priced) → stands_guess s x ps ≡ true → size s.game ≤ 50000 → is_phrase Inputs s.game ≡ true
+  pub planned : (trees : List KindTree) (T : ℕ) (parts : Parts) (priced : Priced) → stands_at_places s x ps ≡ true → size s.game ≤ 50000 → is_phrase Inputs s.game ≡ true
       → guess_row s x ps ≡ Leads (without_guesses x ps s.game) (cost_at s ps T)
       → stack_of trees parts ≡ without_guesses x ps s.game ∷ [] → made_by parts ≡ made_without_guesses x ps s.game → AreLive (length trees) parts
       → priced.change ≡ Built parts → priced.cost ≡ cost_of (cost_at s ps T) → IsPricedChange trees s (guess_step x ps) 0 (made_without_guesses x ps s.game) priced
@@ -65,11 +47,11 @@ module _ (s : Scene) (x : ℕ) (ps : List ℕ) where
     cost = cost_at s ps T;
     change = subst (λ ch. IsCostly trees s (guess_step x ps) 0 (made_without_guesses x ps s.game) (cost_at s ps T) ch) (sym change) (record {
       met = ap (λ v. cond v (failing (guess_row s x ps)) (Some (failed 0 0))) there ∙ ap failing leads;
-      leads = leads ∙ ap (λ t. Leads t (cost_at s ps T)) (sym (ap (λ ts. replaced s.game 0 (top_of ts)) stack ∙ whole s.game (without_guesses x ps s.game) phrase));
+      leads = leads ∙ ap (λ t. Leads t (cost_at s ps T)) (sym (ap (λ ts. replaced s.game 0 (top_of ts)) stack ∙ root_replaced s.game (without_guesses x ps s.game) phrase));
       made = made;
       live = (live, ap length stack);
-      fits = (let one = ap (λ ts. size (top_of ts)) stack in omega (arith, little, one, not_larger x (one_of ps) Inputs 0 s.game));
-      there = rooted s.game phrase;
+      fits = (let one = ap (λ ts. size (top_of ts)) stack in omega (arith, little, one, not_larger x (is_one_of ps) Inputs 0 s.game));
+      there = game_there s.game phrase;
     });
     same = same;
     few = subst (λ k. coefficients (terms_of k false) ≤ 50000) (sym same) (omega (arith, little, as_many_terms s ps T, few there));

@@ -1,7 +1,6 @@
 -- Equalities of a value that is chosen at random and that nothing else reads: where the value is read, where it is defined, and the game
 -- with `false` for these equalities. This profile's own.
-use Rattle.std.specs.Prelude.{ℕ, Bool, true, false, ◌&&◌, ◌||◌, not, ◌==◌, if◌then◌else◌, List, [], ◌∷◌, Option, Some, None}
-use Rattle.std.specs.List.{list_any}
+use Rattle.std.specs.Prelude.{ℕ, Bool, true, false, ◌&&◌, ◌||◌, not, if◌then◌else◌, List, [], ◌∷◌, Option, Some, None}
 use Rattle.cv_syntax_trees.specs.declared.head.Head.{Head}
 use Rattle.cv_syntax_trees.specs.declared.head.Head.TheVariants.{Eq}
 use Rattle.cv_syntax_trees.specs.Tree.{Tree, Empty, Node, first_place, second_place}
@@ -10,13 +9,11 @@ use Rattle.cv_directory_sorts.specs.Sites.{first_of}
 use Rattle.cv_scope_rules.specs.Phrases.{Phrase, Nil, Inputs}
 use Rattle.cv_scene.specs.Scenes.{head_reads, part_at}
 use Rattle.cv_steps.specs.Rewriting.{has_term_at, is_term, parts_of}
+use Rattle.cv_rule_birthday.specs.Comparing.{is_one_of}
 
 -- a set of places, of which most are none
 abbrev pub Places : Type 0
 Places = ℕ → Bool
-
-abbrev pub one_of : List ℕ → Places
-one_of ps p = list_any (λ q. q == p) ps
 
 -- the term is a read of the variable, at whatever indices
 abbrev pub reads : (x : ℕ) → Tree → Bool
@@ -50,7 +47,7 @@ falsified x ps σ p (Node h a b) =
 
 -- the game with `false` at the places
 abbrev pub without_guesses : (x : ℕ) → (places : List ℕ) → Tree → Tree
-without_guesses x ps game = falsified x (one_of ps) Inputs 0 game
+without_guesses x ps game = falsified x (is_one_of ps) Inputs 0 game
 
 -- values are read of terms, and of their indices and those of cells
 abbrev pub has_value : Phrase → Bool
@@ -68,7 +65,7 @@ first_read x ps σ side p (Node h a b) =
     (first_read x ps (parts_of σ h).1 (is_guess x ps σ p h a b && not (reads x a)) (second_place p h a) b)
 
 abbrev pub first_other_read : (places : List ℕ) → (x : ℕ) → (game : Tree) → Option ℕ
-first_other_read ps x game = first_read x (one_of ps) Inputs false 0 game
+first_other_read ps x game = first_read x (is_one_of ps) Inputs false 0 game
 
 -- the first of some places that is none of these
 

@@ -1,7 +1,6 @@
 -- The step `guess`: equalities of a value that is chosen at random and that nothing else reads are taken to be false. What it costs,
 -- and its row. Blanchet, TDSC 2008, bounds by collisions how often one isn't; the conditions and their order are this profile's own.
-use Rattle.std.specs.Prelude.{ℕ, Bool, false, ◌&&◌, ◌||◌, not, List, [], map, Option, Some, None}
-use Rattle.std.specs.List.{list_all}
+use Rattle.std.specs.Prelude.{ℕ, false, not, List, [], map, Option, Some, None}
 use Rattle.cv_syntax_trees.specs.Declarations.{Declaration}
 use Rattle.cv_syntax_trees.specs.Tree.{Tree}
 use Rattle.cv_bound.specs.declared.cost.Collision.{Collision}
@@ -9,12 +8,13 @@ use Rattle.cv_directory_sorts.specs.Sites.{Variable, first_site}
 use Rattle.cv_directory_sorts.specs.declared.sort.Sort.{Sort}
 use Rattle.cv_directory_sorts.specs.declared.sort.Sort.TheVariants.{OfType}
 use Rattle.cv_path.specs.Copies.{copies_at}
-use Rattle.cv_scene.specs.Scenes.{Scene, has_place, is_queried, names}
+use Rattle.cv_scene.specs.Scenes.{Scene, is_queried}
 use Rattle.cv_costs.specs.Collisions.{declared_parameters}
 use Rattle.cv_costs.specs.Factors.{factors_of}
-use Rattle.cv_costs.specs.Large.{are_increasing, first_other_site, is_large}
+use Rattle.cv_costs.specs.Large.{first_other_site, is_large}
 use Rattle.cv_steps.specs.Rows.{unless, unless_at}
 use Rattle.cv_steps.specs.Steps.{Collisions, Cost, Fails, Leads, Row, Step}
+use Rattle.cv_rule_birthday.specs.Conditions.{stands_at_places}
 use Rattle.cv_rule_birthday.specs.guess.Guessing.{compares_at, first_other_read, first_outside, without_guesses}
 
 -- the parameters of a place's copies: those of the replications above it, and those of a branch in whose list or condition it stands
@@ -59,9 +59,5 @@ guess_row s x ps =
     (unless_at 2 (first_other_site (is_large s) x 0 s.game)
     (row_by_site s x ps (first_site x [] s.game)))
 
--- the file or the game has the name, the places are in the game, and each stands before the next
-abbrev pub stands_guess : Scene → (x : ℕ) → (places : List ℕ) → Bool
-stands_guess s x ps = (s.known x || names x s.game) && (list_all (has_place s) ps && are_increasing ps)
-
 abbrev pub guess_step : (x : ℕ) → (places : List ℕ) → Step
-guess_step x ps = record { stands = λ s. stands_guess s x ps; row = λ s. guess_row s x ps }
+guess_step x ps = record { stands = λ s. stands_at_places s x ps; row = λ s. guess_row s x ps }

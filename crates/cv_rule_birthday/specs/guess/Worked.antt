@@ -10,11 +10,12 @@ use Rattle.cv_meaning_runs.specs.Replacement.{if_tree}
 use Rattle.cv_derive_rules.specs.Truths.{no}
 use Rattle.cv_scene.specs.Scenes.{Scene}
 use Rattle.cv_steps.specs.Steps.{Fails, Leads, Row}
-use Rattle.cv_rule_birthday.specs.guess.Row.{guess_row, one_for_guesses, stands_guess}
+use Rattle.cv_rule_birthday.specs.Conditions.{stands_at_places}
+use Rattle.cv_rule_birthday.specs.guess.Row.{guess_row, one_for_guesses}
 
 -- what is said of the step: condition 0 stands before the row
 abbrev pub judged : Scene → (x : ℕ) → (places : List ℕ) → Row
-judged s x ps = if stands_guess s x ps then guess_row s x ps else Fails 0 0
+judged s x ps = if stands_at_places s x ps then guess_row s x ps else Fails 0 0
 
 -- type 0 [fixed]. type 5 [large]. type 6 [fixed]. param 2. param 7.
 abbrev pub declared : List Declaration

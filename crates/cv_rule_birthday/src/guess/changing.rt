@@ -6,11 +6,12 @@ ghost use Rattle.cv_syntax.specs.limits.Limits.{nodes_of};
 ghost use Rattle.cv_derive_rules.specs.Truths.{no};
 ghost use Rattle.cv_edit_places.specs.Parts.{AreLive, made_by, stack_of};
 ghost use Rattle.cv_scene_view.specs.phrases.Phrases.{phrase_of};
-ghost use Rattle.cv_rule_birthday.specs.guess.Guessing.{falsified, one_of, without_guesses};
+ghost use Rattle.cv_rule_birthday.specs.Comparing.{is_one_of};
+ghost use Rattle.cv_rule_birthday.specs.guess.Guessing.{falsified, without_guesses};
 ghost use Rattle.cv_rule_birthday.specs.guess.Needs.{made_without_guesses};
 
-use crate::guess::guesses::{is_guess, parts_within};
-use cv_edit_places::Parts;
+use crate::guess::guesses::is_guess;
+use cv_edit_places::{Parts, parts_within};
 use cv_scene_view::phrases::Phrase;
 use cv_syntax::{Head, NodeId, Pool, read_node, size};
 use std::alloc::{AllocError, Global};
@@ -43,10 +44,10 @@ fn add_falsified(
     requires fits { from + tree.size (tree_at pool.now.trees start) < 2 ^ 32 }
     ensures next { IfOk result (λ next. next ≡ from + tree.size (tree_at pool.now.trees start)) }
     ensures stack { OnOk result (stack_of pool.now.trees parts.new
-        ≡ falsified x (one_of places.now) (phrase_of phrase) from (tree_at pool.now.trees start)
+        ≡ falsified x (is_one_of places.now) (phrase_of phrase) from (tree_at pool.now.trees start)
         ∷ stack_of pool.now.trees parts.old) }
     ensures made { OnOk result (made_by parts.new ≡ made_by parts.old
-        + nodes_of (falsified x (one_of places.now) (phrase_of phrase) from
+        + nodes_of (falsified x (is_one_of places.now) (phrase_of phrase) from
         (tree_at pool.now.trees start))) }
     ensures live { OnOk result (AreLive (length pool.now.trees) parts.old
         → AreLive (length pool.now.trees) parts.new) }

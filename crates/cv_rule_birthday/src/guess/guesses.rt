@@ -1,37 +1,15 @@
-ghost use Rattle.std.specs.Prelude.{◌≡◌, ◌&&◌, ◌<◌, length, not};
+ghost use Rattle.std.specs.Prelude.{◌≡◌, ◌&&◌, length, not};
 ghost use Rattle.cv_pool.specs.Nodes.{ChildBelow};
 ghost use Rattle.cv_syntax.specs.PoolTrees.{tree_at};
-ghost use Rattle.cv_scene_view.specs.phrases.Phrases.{both, phrase_of};
-ghost use Rattle.cv_steps.specs.Rewriting as rewriting;
+ghost use Rattle.cv_scene_view.specs.phrases.Phrases.{phrase_of};
+ghost use Rattle.cv_rule_birthday.specs.Comparing as comparing;
 ghost use Rattle.cv_rule_birthday.specs.guess.Guessing as guessing;
-ghost use Rattle.cv_rule_birthday.specs.guess.Guessing.{one_of};
 
+use crate::changing::is_one_of;
 use crate::guess::comparisons::reads;
-use cv_scene_view::phrases::{Phrase, parts};
+use cv_edit_places::is_term;
+use cv_scene_view::phrases::Phrase;
 use cv_syntax::{Head, Opened, Pool};
-
-/// What the children of a node are; the indices of a read are passed over.
-pub(crate) fn parts_within(phrase: Phrase, head: Head) -> (Phrase, Phrase)
-    ensures { both result ≡ rewriting.parts_of (phrase_of phrase) head }
-{
-    match head {
-        Head::Read(_) => (Phrase::Nil, Phrase::Nil),
-        _ => match parts(phrase, head) {
-            Some(both) => both,
-            None => (Phrase::Nil, Phrase::Nil),
-        },
-    }
-}
-
-/// Whether what stands there is a term.
-fn is_term(phrase: Phrase) -> bool
-    ensures { result ≡ rewriting.is_term (phrase_of phrase) }
-{
-    match phrase {
-        Phrase::Term => true,
-        _ => false,
-    }
-}
 
 fn is_equality(head: Head) -> bool
     ensures { result ≡ guessing.is_equality head }
@@ -40,19 +18,6 @@ fn is_equality(head: Head) -> bool
         Head::Eq => true,
         _ => false,
     }
-}
-
-/// Whether a place is one of a list.
-fn is_one_of(places: &[u32], place: u32) -> bool
-    ensures { result ≡ one_of places.now place }
-{
-    'places: for k in 0..places.len() {
-        let same = places[k] == place;
-        if same {
-            return true;
-        }
-    }
-    false
 }
 
 /// Whether a node that stands at one of some places is an equality in the terms, with a side that reads a variable.
@@ -66,8 +31,8 @@ pub(crate) fn is_guess(
 ) -> bool
     requires first { ChildBelow (length pool.now.trees) node.first }
     requires second { ChildBelow (length pool.now.trees) node.second }
-    ensures { result ≡ guessing.is_guess x (one_of places.now) (phrase_of phrase) place node.head
-        (tree_at pool.now.trees node.first) (tree_at pool.now.trees node.second) }
+    ensures { result ≡ guessing.is_guess x (comparing.is_one_of places.now) (phrase_of phrase)
+        place node.head (tree_at pool.now.trees node.first) (tree_at pool.now.trees node.second) }
 {
     is_term(phrase)
         && (is_equality(node.head)
@@ -93,11 +58,13 @@ pub(crate) fn sides_of(
 ) -> Sides
     requires first { ChildBelow (length pool.now.trees) node.first }
     requires second { ChildBelow (length pool.now.trees) node.second }
-    ensures left { result.left ≡ (guessing.is_guess x (one_of places.now) (phrase_of phrase) place
-        node.head (tree_at pool.now.trees node.first) (tree_at pool.now.trees node.second)
+    ensures left { result.left ≡ (guessing.is_guess x (comparing.is_one_of places.now)
+        (phrase_of phrase) place node.head
+        (tree_at pool.now.trees node.first) (tree_at pool.now.trees node.second)
         && guessing.reads x (tree_at pool.now.trees node.first)) }
-    ensures right { result.right ≡ (guessing.is_guess x (one_of places.now) (phrase_of phrase)
-        place node.head (tree_at pool.now.trees node.first) (tree_at pool.now.trees node.second)
+    ensures right { result.right ≡ (guessing.is_guess x (comparing.is_one_of places.now)
+        (phrase_of phrase) place node.head
+        (tree_at pool.now.trees node.first) (tree_at pool.now.trees node.second)
         && not (guessing.reads x (tree_at pool.now.trees node.first))) }
 {
     let is_guess = is_guess(pool, x, places, phrase, place, node);

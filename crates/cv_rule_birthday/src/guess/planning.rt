@@ -1,5 +1,4 @@
 ghost use Rattle.std.specs.Prelude.{◌≡◌, ◌<◌, ◌≤◌, ◌^◌, All, IfOk, Some, length};
-ghost use Rattle.std.specs.List.{list_all};
 ghost use Rattle.cv_syntax_trees.specs.Tree as tree;
 ghost use Rattle.cv_syntax.specs.Declarations.{declarations};
 ghost use Rattle.cv_syntax.specs.PoolTrees.{tree_at};
@@ -8,55 +7,24 @@ ghost use Rattle.cv_directory_sorts.specs.Sites.{sites_of};
 ghost use Rattle.cv_typing.specs.Tables.{arrays_of};
 ghost use Rattle.cv_scope_rules.specs.typing.Signature.{OfGame};
 ghost use Rattle.cv_scope_rules.specs.Phrases.{IsWellFormed};
-ghost use Rattle.cv_scene.specs.Scenes as scenes;
 ghost use Rattle.cv_scene_view.specs.Kept.{scene_of};
-ghost use Rattle.cv_edit_places.specs.Plans.{IsPriced, failed};
+ghost use Rattle.cv_edit_places.specs.Plans.{IsPriced};
 ghost use Rattle.cv_rule_birthday.specs.guess.Looks.{IsGuessed};
 ghost use Rattle.cv_rule_birthday.specs.guess.Needs.{made_without_guesses};
-ghost use Rattle.cv_rule_birthday.specs.guess.Row.{guess_step, stands_guess};
+ghost use Rattle.cv_rule_birthday.specs.guess.Row.{guess_step};
 
+use crate::conditions::{failed, stands};
 use crate::guess::changing::falsified_parts;
 use crate::guess::comparisons::first_outside;
 use crate::guess::costs::cost_of_guesses;
 use crate::guess::reads::first_other_read;
-use cv_costs::{are_increasing, first_other_site, is_large};
+use cv_costs::{first_other_site, is_large};
 use cv_directory_sorts::Sort;
 use cv_edit_places::{Change, Failure, Priced};
-use cv_scene_view::{has_place, is_known, is_queried};
+use cv_scene_view::is_queried;
 use cv_syntax::{NodeId, Work};
 use cv_typing::Arrays;
 use std::alloc::{AllocError, Global};
-
-/// A condition that fails.
-fn failed(condition: u32, place: u32) -> Failure
-    ensures { result ≡ failed condition place }
-{
-    Failure { condition, place }
-}
-
-/// Whether a game has all of some places.
-fn has_places(work: &Work, game: NodeId, places: &[u32]) -> bool
-    requires live { game.0 < length work.now.pool.trees }
-    requires fits { tree.size (tree_at work.now.pool.trees (Some game)) < 2 ^ 32 }
-    ensures { result ≡ list_all
-        (scenes.has_place (scene_of work.now.pool work.now.decls game)) places.now }
-{
-    'places: for k in 0..places.len() {
-        if !has_place(work, game, places[k]) {
-            return false;
-        }
-    }
-    true
-}
-
-/// Whether what a `guess` speaks of is there.
-fn stands(work: &Work, game: NodeId, x: u32, places: &[u32]) -> bool
-    requires live { game.0 < length work.now.pool.trees }
-    requires fits { tree.size (tree_at work.now.pool.trees (Some game)) < 2 ^ 32 }
-    ensures { result ≡ stands_guess (scene_of work.now.pool work.now.decls game) x places.now }
-{
-    is_known(work, game, x) && (has_places(work, game, places) && are_increasing(places))
-}
 
 /// The large type of a variable that is compared at some places and read nowhere else; or the first condition that fails.
 fn guessed_type(

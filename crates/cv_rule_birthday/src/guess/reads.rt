@@ -5,10 +5,12 @@ ghost use Rattle.cv_syntax.specs.PoolTrees.{tree_at};
 ghost use Rattle.cv_scene.specs.Scenes as scenes;
 ghost use Rattle.cv_scene_view.specs.phrases.Phrases.{phrase_of};
 ghost use Rattle.cv_rule_birthday.specs.guess.Guessing as guessing;
-ghost use Rattle.cv_rule_birthday.specs.guess.Guessing.{first_read, one_of};
+ghost use Rattle.cv_rule_birthday.specs.Comparing.{is_one_of};
+ghost use Rattle.cv_rule_birthday.specs.guess.Guessing.{first_read};
 
 use crate::guess::comparisons::head_reads;
-use crate::guess::guesses::{parts_within, sides_of};
+use crate::guess::guesses::sides_of;
+use cv_edit_places::parts_within;
 use cv_scene_view::phrases::Phrase;
 use cv_syntax::{Head, NodeId, Pool, read_node};
 
@@ -44,11 +46,11 @@ fn other_reads(
 ) -> Result<u32, u32>
     requires live { ChildBelow (length pool.now.trees) tree }
     requires fits { from + size (tree_at pool.now.trees tree) < 2 ^ 32 }
-    ensures none { OnOk result (first_read x (one_of places.now) (phrase_of phrase) is_side from
+    ensures none { OnOk result (first_read x (is_one_of places.now) (phrase_of phrase) is_side from
         (tree_at pool.now.trees tree) ≡ None) }
     ensures next { IfOk result (λ next. next ≡ from + size (tree_at pool.now.trees tree)) }
-    ensures found { IfErr result (λ p. first_read x (one_of places.now) (phrase_of phrase) is_side
-        from (tree_at pool.now.trees tree) ≡ Some p) }
+    ensures found { IfErr result (λ p. first_read x (is_one_of places.now) (phrase_of phrase)
+        is_side from (tree_at pool.now.trees tree) ≡ Some p) }
 {
     let mut within = phrase;
     let mut side = is_side;

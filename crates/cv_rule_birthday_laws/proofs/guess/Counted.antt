@@ -19,7 +19,8 @@ use Rattle.cv_steps.proofs.Flat.{open_phrase}
 use Rattle.cv_steps.proofs.Places.{is_bare}
 use Rattle.cv_rule_fresh.specs.collisions.Chances.{copies}
 use Rattle.cv_lists.proofs.Each.{AllByRecursion_append, AllByRecursion_weaker}
-use Rattle.cv_rule_birthday.specs.guess.Guessing.{Places, falsified, is_equality, is_guess, one_of}
+use Rattle.cv_rule_birthday.specs.Comparing.{is_one_of}
+use Rattle.cv_rule_birthday.specs.guess.Guessing.{Places, falsified, is_equality, is_guess}
 use Rattle.cv_rule_birthday.specs.guess.Row.{or_none, parameters_of}
 use Rattle.cv_rule_birthday_laws.specs.guess.Spots.{Spot, binders_below, construct_below, parameters_of_spot, spot_of, spots, spots_of}
 use Rattle.cv_rule_birthday_laws.proofs.guess.Unread.{equality_is, is_read, parts_are, spots_bare, term_is}
@@ -348,16 +349,16 @@ stays p r (q ∷ qs) n e = go (q == p) refl (q == r) refl e (stays p r qs n)
     go false i true k f ih = ap (λ z. z || list_any (λ q. q == r) (without_one p qs)) k
     go false i false k f ih = ap (λ z. z || list_any (λ q. q == r) (without_one p qs)) k ∙ ih f
 
-sum_within : (f : ℕ → ℕ) (ss : List Spot) (qs : List ℕ) → AreApart ss → AllByRecursion (λ s. one_of qs s.origin ≡ true) ss → sum_by (λ s. f s.origin) ss ≤ sum_by f qs
+sum_within : (f : ℕ → ℕ) (ss : List Spot) (qs : List ℕ) → AreApart ss → AllByRecursion (λ s. is_one_of qs s.origin ≡ true) ss → sum_by (λ s. f s.origin) ss ≤ sum_by f qs
 sum_within f [] qs a h = omega arith
 sum_within f (s ∷ ss) qs a h =
-    let later : AllByRecursion (λ r. one_of (without_one s.origin qs) r.origin ≡ true) ss = both ss a.0 h.1 in
+    let later : AllByRecursion (λ r. is_one_of (without_one s.origin qs) r.origin ≡ true) ss = both ss a.0 h.1 in
     let k = sum_within f ss (without_one s.origin qs) a.1 later in
     let m = sum_taken f s.origin qs h.0 in
     let n = sum_by-cons (λ (r : Spot). f r.origin) s ss in
     le_trans (le_of_eq n) (le_trans (let z : f s.origin + sum_by (λ (r : Spot). f r.origin) ss ≤ f s.origin + sum_by f (without_one s.origin qs) = omega arith in z) (le_of_eq (sym m)))
   where
-    both : (rs : List Spot) → AllByRecursion (λ r. s.origin < r.origin) rs → AllByRecursion (λ r. one_of qs r.origin ≡ true) rs → AllByRecursion (λ r. one_of (without_one s.origin qs) r.origin ≡ true) rs
+    both : (rs : List Spot) → AllByRecursion (λ r. s.origin < r.origin) rs → AllByRecursion (λ r. is_one_of qs r.origin ≡ true) rs → AllByRecursion (λ r. is_one_of (without_one s.origin qs) r.origin ≡ true) rs
     both [] u v = tt
     both (r ∷ rs) u v = (stays s.origin r.origin qs (λ e. let l = u.0 in omega arith) v.0, both rs u.1 v.1)
 
@@ -374,13 +375,13 @@ places_mapped i game (q ∷ qs) =
     ∙ (ap (λ n. copies i (parameters_of game q) + n) (places_mapped i game qs) ∙ sym (sum_by-cons (λ q. copies i (parameters_of game q)) q qs))
 
 -- so the copies of all guesses are no more than those of the places
-pub copies_of_all : (i : Interpretation) (x : ℕ) (game : Tree) (qs : List ℕ) → is_phrase Inputs game ≡ true → sum_by (copies i) (map parameters_of_spot (spots_of x (one_of qs) game)) ≤ sum_by (copies i) (map (parameters_of game) qs)
+pub copies_of_all : (i : Interpretation) (x : ℕ) (game : Tree) (qs : List ℕ) → is_phrase Inputs game ≡ true → sum_by (copies i) (map parameters_of_spot (spots_of x (is_one_of qs) game)) ≤ sum_by (copies i) (map (parameters_of game) qs)
 unfolding parameters
 copies_of_all i x game qs w =
-    let ss : List Spot = spots_of x (one_of qs) game in
-    let each = counted x (one_of qs) Inputs game 0 0 0 [] Empty w refl in
+    let ss : List Spot = spots_of x (is_one_of qs) game in
+    let each = counted x (is_one_of qs) Inputs game 0 0 0 [] Empty w refl in
     let own : AllByRecursion (λ s. parameters_of_spot s ≡ parameters_of game s.origin) ss =
-    AllByRecursion_weaker (Counted x (one_of qs) Inputs 0 [] Empty game) (λ s. parameters_of_spot s ≡ parameters_of game s.origin) (λ s k. k.parameters ∙ ap (parameters_of game) (let n : s.origin - 0 ≡ s.origin = omega arith in n)) ss each in
-    let listed : AllByRecursion (λ s. one_of qs s.origin ≡ true) ss = AllByRecursion_weaker (Counted x (one_of qs) Inputs 0 [] Empty game) (λ s. one_of qs s.origin ≡ true) (λ s k. k.listed) ss each in
+    AllByRecursion_weaker (Counted x (is_one_of qs) Inputs 0 [] Empty game) (λ s. parameters_of_spot s ≡ parameters_of game s.origin) (λ s k. k.parameters ∙ ap (parameters_of game) (let n : s.origin - 0 ≡ s.origin = omega arith in n)) ss each in
+    let listed : AllByRecursion (λ s. is_one_of qs s.origin ≡ true) ss = AllByRecursion_weaker (Counted x (is_one_of qs) Inputs 0 [] Empty game) (λ s. is_one_of qs s.origin ≡ true) (λ s k. k.listed) ss each in
     le_trans (le_of_eq (sum_mapped i game ss own))
-    (le_trans (sum_within (λ q. copies i (parameters_of game q)) ss qs (between x (one_of qs) Inputs game 0 0 0 [] Empty).1 listed) (le_of_eq (sym (places_mapped i game qs))))
+    (le_trans (sum_within (λ q. copies i (parameters_of game q)) ss qs (between x (is_one_of qs) Inputs game 0 0 0 [] Empty).1 listed) (le_of_eq (sym (places_mapped i game qs))))

@@ -1,40 +1,15 @@
 -- Games with `false` for guesses: what has no terms stays as it is, and so does a read of the variable.
 use Rattle.std.proofs.Common.{◌≡◌, ℕ, Option, Some, None, ◌&&◌, ◌||◌, Bool, true, false, cond, refl, ap, ap₂, ◌∙◌}
 use Rattle.std.proofs.lemmas.Bool.{both_ways, and_parts}
-use Rattle.cv_syntax_trees.specs.declared.head.Head.{Head}
-use Rattle.cv_syntax_trees.specs.declared.head.Head.TheVariants.{Binder, Cons, Leaf, Name, Read}
+use Rattle.cv_syntax_trees.specs.declared.head.Head.TheVariants.{Leaf, Read}
 use Rattle.cv_syntax_trees.specs.Tree.{Tree, Empty, Node, first_place, second_place}
 use Rattle.cv_lists.specs.Options.{first_of}
 use Rattle.cv_derive_rules.specs.Truths.{no}
 use Rattle.cv_meaning.specs.Still.{head_is_still, is_still}
-use Rattle.cv_scope_rules.specs.Phrases.{Phrase, Nil, Pattern, Indices, Binders, Cells, OneCell, Term}
-use Rattle.cv_steps.specs.Rewriting.{is_term, parts_of}
-use Rattle.cv_steps.proofs.Places.{is_bare}
+use Rattle.cv_scope_rules.specs.Phrases.{Phrase, Nil, Term}
+use Rattle.cv_steps.specs.Rewriting.{parts_of}
+use Rattle.cv_steps.proofs.Places.{bare_is_no_term, is_bare, parts_bare}
 use Rattle.cv_rule_birthday.specs.guess.Guessing.{Places, falsified, is_equality, is_guess, reads}
-
-pub bare_parts : (σ : Phrase) (h : Head) → is_bare σ ≡ true → (is_bare (parts_of σ h).0 ≡ true) × (is_bare (parts_of σ h).1 ≡ true)
-bare_parts Nil (Read x) e = (refl, refl)
-bare_parts Nil h e = (refl, refl)
-bare_parts Pattern (Read x) e = (refl, refl)
-bare_parts Pattern Cons e = (refl, refl)
-bare_parts Pattern h e = (refl, refl)
-bare_parts Indices (Read x) e = (refl, refl)
-bare_parts Indices (Name i) e = (refl, refl)
-bare_parts Indices h e = (refl, refl)
-bare_parts Binders (Read x) e = (refl, refl)
-bare_parts Binders (Binder x T) e = (refl, refl)
-bare_parts Binders h e = (refl, refl)
-bare_parts Cells (Read x) e = (refl, refl)
-bare_parts Cells Cons e = (refl, refl)
-bare_parts Cells h e = (refl, refl)
-bare_parts OneCell (Read x) e = (refl, refl)
-bare_parts OneCell (Leaf x) e = (refl, refl)
-bare_parts OneCell h e = (refl, refl)
-bare_parts σ h e = absurd (both_ways false refl e)
-
-pub bare_no_term : (σ : Phrase) → is_bare σ ≡ true → is_term σ ≡ false
-bare_no_term Term e = absurd (both_ways false refl e)
-bare_no_term σ e = refl
 
 pub nothing_first : (c : Bool) (p : ℕ) (o q : Option ℕ) → cond c (Some p) (first_of o q) ≡ None → (c ≡ false) × (o ≡ None) × (q ≡ None)
 nothing_first true p o q e = absurd (cc)
@@ -46,9 +21,9 @@ module _ (x : ℕ) (ps : Places) where
   unfolding falsified
   kept_bare σ Empty p e = refl
   kept_bare σ (Node h a b) p e =
-      let r = bare_parts σ h e in
-      ap (λ c. cond (c && (is_equality h && (ps p && (reads x a || reads x b)))) no (Node h (falsified x ps (parts_of σ h).0 (first_place p h) a) (falsified x ps (parts_of σ h).1 (second_place p h a) b))) (bare_no_term σ e)
-      ∙ ap₂ (Node h) (kept_bare (parts_of σ h).0 a (first_place p h) r.0) (kept_bare (parts_of σ h).1 b (second_place p h a) r.1)
+      let r = parts_bare σ h e in
+      ap (λ c. cond (c && (is_equality h && (ps p && (reads x a || reads x b)))) no (Node h (falsified x ps (parts_of σ h).0 (first_place p h) a) (falsified x ps (parts_of σ h).1 (second_place p h a) b))) (bare_is_no_term σ e)
+      ∙ ap₂ (Node h) (kept_bare (parts_of σ h).0 a (first_place p h) r.first) (kept_bare (parts_of σ h).1 b (second_place p h a) r.second)
 
   -- a read of the variable
   pub kept_read : (t : Tree) (p : ℕ) → reads x t ≡ true → falsified x ps Term p t ≡ t

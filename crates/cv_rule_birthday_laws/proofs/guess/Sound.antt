@@ -19,7 +19,8 @@ use Rattle.cv_steps.specs.Rewriting.{parts_of}
 use Rattle.cv_steps_laws.proofs.Indices.{Lacks, bound_before, lacking_empty, lacking_node, lacking_parts}
 use Rattle.cv_steps_laws.proofs.Keeping.{accepted, formed}
 use Rattle.cv_steps_laws.proofs.Values.{type_value}
-use Rattle.cv_rule_birthday.specs.guess.Guessing.{Places, falsified, is_guess, one_of}
+use Rattle.cv_rule_birthday.specs.Comparing.{is_one_of}
+use Rattle.cv_rule_birthday.specs.guess.Guessing.{Places, falsified, is_guess}
 use Rattle.cv_rule_birthday.specs.guess.Row.{guess_step, one_for_guesses, parameters_of}
 use Rattle.cv_rule_birthday_laws.proofs.guess.Falsified.{kept_bare}
 use Rattle.cv_rule_birthday_laws.proofs.guess.Keeping.{guesses_cost, large_type}
@@ -88,11 +89,11 @@ guess_sound x ps = record {
       subst (λ c. HasTapes (bound_of i c)) r.priced (has_tapes i s.declarations r.type (type_value s i sat r.type (large_type (declaration_of s.declarations r.type) r.large)) (map (parameters_of s.game) ps));
   declared = λ s next cost w d e.
       let r = guess_leads next cost s x ps (accepted s (guess_step x ps) next cost e).row in
-      subst (HasDeclaredSorts s.declarations) r.leads (sorts_kept x (one_of ps) s.declarations Inputs s.game 0 d);
+      subst (HasDeclaredSorts s.declarations) r.leads (sorts_kept x (is_one_of ps) s.declarations Inputs s.game 0 d);
   valued = λ s next cost w i sat m new d e.
       let r = guess_leads next cost s x ps (accepted s (guess_step x ps) next cost e).row in
-      subst (HasValuesIn (setting_of s.declarations i) m) r.leads (values_kept x (one_of ps) (setting_of s.declarations i) m Inputs s.game 0 d);
+      subst (HasValuesIn (setting_of s.declarations i) m) r.leads (values_kept x (is_one_of ps) (setting_of s.declarations i) m Inputs s.game 0 d);
   bound = λ s next cost e i h.
       let r = guess_leads next cost s x ps (accepted s (guess_step x ps) next cost e).row in
-      bound_before i s.game next (λ l. subst (Lacks i) r.leads (indices_kept x (one_of ps) i Inputs s.game 0 l)) h;
+      bound_before i s.game next (λ l. subst (Lacks i) r.leads (indices_kept x (is_one_of ps) i Inputs s.game 0 l)) h;
 }

@@ -19,14 +19,14 @@ use Rattle.cv_query_certificates.specs.Secrets.{AreUnreadChoices, first_definiti
 use Rattle.cv_costs.specs.quiet.Quiet.{only}
 use Rattle.cv_steps.specs.Rewriting.{by_parts, is_term, parts_of}
 use Rattle.cv_steps.proofs.Flat.{open_phrase}
-use Rattle.cv_steps.proofs.Places.{is_bare}
+use Rattle.cv_steps.proofs.Places.{bare_is_no_term, is_bare, parts_bare}
 use Rattle.cv_lists.proofs.Each.{AllByRecursion_append}
 use Rattle.cv_lists.proofs.Tests.{and_false, and_true}
 use Rattle.cv_costs.proofs.quiet.Shapes.{left_false}
 use Rattle.cv_costs.specs.Large.{chooses, first_other_site}
 use Rattle.cv_rule_birthday.specs.guess.Guessing.{Places, falsified, first_read, has_value, is_equality, is_guess, reads}
 use Rattle.cv_rule_birthday_laws.specs.guess.Spots.{Spot, binders_below, construct_below, spot_of, spots, spots_of}
-use Rattle.cv_rule_birthday_laws.proofs.guess.Falsified.{bare_no_term, bare_parts, kept_bare, kept_read, nothing_first}
+use Rattle.cv_rule_birthday_laws.proofs.guess.Falsified.{kept_bare, kept_read, nothing_first}
 
 -- parts of phrases
 
@@ -282,9 +282,9 @@ module _ (x : ℕ) (ps : Places) (types : ℕ → Bool) where
   unfolding spots
   spots_bare P σ Empty p q c rs us e = tt
   spots_bare P σ (Node h a b) p q c rs us e =
-      let r = bare_parts σ h e in
-      AllByRecursion_append P (cond (is_guess x ps σ p h a b) (here ∷ []) []) _ (go (is_term σ) (bare_no_term σ e))
-      (AllByRecursion_append P (spots x ps (parts_of σ h).0 (first_place p h) (first_place q h) (construct_below σ q c) rs us a) _ (spots_bare P (parts_of σ h).0 a _ _ _ rs us r.0) (spots_bare P (parts_of σ h).1 b _ _ _ _ _ r.1))
+      let r = parts_bare σ h e in
+      AllByRecursion_append P (cond (is_guess x ps σ p h a b) (here ∷ []) []) _ (go (is_term σ) (bare_is_no_term σ e))
+      (AllByRecursion_append P (spots x ps (parts_of σ h).0 (first_place p h) (first_place q h) (construct_below σ q c) rs us a) _ (spots_bare P (parts_of σ h).0 a _ _ _ rs us r.first) (spots_bare P (parts_of σ h).1 b _ _ _ _ _ r.second))
     where
       here : Spot
       here = spot_of x p c rs us a b (False (parts_of σ h).0 (first_place p h) a) (False (parts_of σ h).1 (second_place p h a) b)

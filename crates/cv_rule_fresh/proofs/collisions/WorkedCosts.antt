@@ -1,5 +1,5 @@
 -- In a small game the cost of the step is reached.
-use Rattle.std.proofs.Common.{◌≡◌, [], ◌∷◌, refl, sym, subst}
+use Rattle.std.proofs.Common.{◌≡◌, refl, sym, subst}
 use Rattle.cv_syntax_trees.specs.Tree.{reads_only, same_tree, size, subtree}
 use Rattle.cv_meaning.specs.Tapes.{count, sum_below, total, written}
 use Rattle.cv_meaning.specs.Memory.{put}

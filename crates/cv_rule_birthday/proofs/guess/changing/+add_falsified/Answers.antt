@@ -8,14 +8,15 @@ use Rattle.cv_syntax.proofs.Walking.{above_child, above_some, size_at, size_end}
 use Rattle.cv_derive_rules.specs.Truths.{no}
 use Rattle.cv_edit_places.specs.Parts.{stack_of}
 use Rattle.cv_scene_view.specs.phrases.Phrases.{both, phrase_of}
-use Rattle.cv_rule_birthday.specs.guess.Guessing.{falsified, one_of}
+use Rattle.cv_rule_birthday.specs.Comparing.{is_one_of}
+use Rattle.cv_rule_birthday.specs.guess.Guessing.{falsified}
 use Rattle.cv_rule_birthday.proofs.guess.Walks.{false_end, false_here, false_later, listed_here, listed_later, nodes_no, nodes_node, nodes_none}
 use Rattle.cv_rule_birthday.proofs.guess.changing.+add_falsified.Goals as goal
 
 pub returns-then-here-clause-stack : goal.returns-then-here-clause-stack
 returns-then-here-clause-stack t c =
     let trees = c.args.pool.now.trees in
-    let on = one_of c.args.places.now in
+    let on = is_one_of c.args.places.now in
     let node = c.read_node-node.result in
     let e = node_at trees c.chain.at c.in-Some.k node c.in-Some.is c.read_node-node.ensures.tree in
     let q = false_here c.args.x on (phrase_of c.chain.within) c.chain.place (tree_at trees c.chain.at) node.head (tree_at trees node.first) (tree_at trees node.second) e c.is_guess-here.result c.is_guess-here.ensures c.if-here.true in
@@ -25,7 +26,7 @@ returns-then-here-clause-stack t c =
 pub returns-then-here-clause-made : goal.returns-then-here-clause-made
 returns-then-here-clause-made t c =
     let trees = c.args.pool.now.trees in
-    let on = one_of c.args.places.now in
+    let on = is_one_of c.args.places.now in
     let node = c.read_node-node.result in
     let e = node_at trees c.chain.at c.in-Some.k node c.in-Some.is c.read_node-node.ensures.tree in
     let q = false_here c.args.x on (phrase_of c.chain.within) c.chain.place (tree_at trees c.chain.at) node.head (tree_at trees node.first) (tree_at trees node.second) e c.is_guess-here.result c.is_guess-here.ensures c.if-here.true in
@@ -51,7 +52,7 @@ add_falsified-requires t c =
 pub chain-preserved : goal.chain-preserved
 chain-preserved t c =
     let trees = c.args.pool.now.trees in
-    let on = one_of c.args.places.now in
+    let on = is_one_of c.args.places.now in
     let x = c.args.x in
     let node = c.read_node-node.result in
     let parts = c.parts_within-first.result in
@@ -83,14 +84,14 @@ returns-clause-next t c = omega (arith, c.chain.invariant.sum, size_end c.args.p
 pub returns-clause-stack : goal.returns-clause-stack
 returns-clause-stack t c =
     let trees = c.args.pool.now.trees in
-    let q = false_end c.args.x (one_of c.args.places.now) (phrase_of c.chain.within) c.chain.place (tree_at trees c.chain.at) (empty_at trees c.chain.at c.in_default.is) in
-    listed_here c.chain.heads.items (tree_at trees None) (falsified c.args.x (one_of c.args.places.now) (phrase_of c.chain.within) c.chain.place (tree_at trees c.chain.at)) (stack_of trees c.chain.parts) (stack_of trees c.there.new.self) (stack_of trees c.close-2.new.self)
-    (falsified c.args.x (one_of c.args.places.now) (phrase_of c.args.phrase) c.args.from (tree_at trees c.args.start) ∷ stack_of trees c.args.parts.now) c.chain.invariant.stack (q ∙ sym (tree_at_None trees)) (c.in_ok-there.ensures.stack trees) (c.in_ok-close-2.ensures.stack trees)
+    let q = false_end c.args.x (is_one_of c.args.places.now) (phrase_of c.chain.within) c.chain.place (tree_at trees c.chain.at) (empty_at trees c.chain.at c.in_default.is) in
+    listed_here c.chain.heads.items (tree_at trees None) (falsified c.args.x (is_one_of c.args.places.now) (phrase_of c.chain.within) c.chain.place (tree_at trees c.chain.at)) (stack_of trees c.chain.parts) (stack_of trees c.there.new.self) (stack_of trees c.close-2.new.self)
+    (falsified c.args.x (is_one_of c.args.places.now) (phrase_of c.args.phrase) c.args.from (tree_at trees c.args.start) ∷ stack_of trees c.args.parts.now) c.chain.invariant.stack (q ∙ sym (tree_at_None trees)) (c.in_ok-there.ensures.stack trees) (c.in_ok-close-2.ensures.stack trees)
 
 pub returns-clause-made : goal.returns-clause-made
 returns-clause-made t c =
     let trees = c.args.pool.now.trees in
-    let q = false_end c.args.x (one_of c.args.places.now) (phrase_of c.chain.within) c.chain.place (tree_at trees c.chain.at) (empty_at trees c.chain.at c.in_default.is) in
+    let q = false_end c.args.x (is_one_of c.args.places.now) (phrase_of c.chain.within) c.chain.place (tree_at trees c.chain.at) (empty_at trees c.chain.at c.in_default.is) in
     omega (arith, ap nodes_of q ∙ nodes_none, c.in_ok-close-2.ensures.made, c.in_ok-there.ensures.made, c.chain.invariant.made)
 
 pub returns-clause-live : goal.returns-clause-live

@@ -9,14 +9,15 @@ use Rattle.cv_lists.specs.Options.{first_of}
 use Rattle.cv_scene.specs.Scenes.{head_reads}
 use Rattle.cv_scene_view.specs.phrases.Phrases.{both, phrase_of}
 use Rattle.cv_steps.specs.Rewriting.{parts_of}
-use Rattle.cv_rule_birthday.specs.guess.Guessing.{first_read, has_value, is_guess, one_of, reads}
+use Rattle.cv_rule_birthday.specs.Comparing.{is_one_of}
+use Rattle.cv_rule_birthday.specs.guess.Guessing.{first_read, has_value, is_guess, reads}
 use Rattle.cv_rule_birthday.proofs.guess.Walks.{found_first, found_here, found_later, read_end, read_node}
 use Rattle.cv_rule_birthday.proofs.guess.reads.+other_reads.Goals as goal
 
 pub returns-then-is_read-clause-found : goal.returns-then-is_read-clause-found
 returns-then-is_read-clause-found t c =
     let trees = c.args.pool.now.trees in
-    let on = one_of c.args.places.now in
+    let on = is_one_of c.args.places.now in
     let all = first_read c.args.x on (phrase_of c.args.phrase) c.args.is_side c.args.from (tree_at trees c.args.tree) in
     let x = c.args.x in
     let σ = phrase_of c.tree.within in
@@ -48,7 +49,7 @@ other_reads-requires t c =
 pub returns-in-Err-clause-found : goal.returns-in-Err-clause-found
 returns-in-Err-clause-found t c =
     let trees = c.args.pool.now.trees in
-    let on = one_of c.args.places.now in
+    let on = is_one_of c.args.places.now in
     let all = first_read c.args.x on (phrase_of c.args.phrase) c.args.is_side c.args.from (tree_at trees c.args.tree) in
     let x = c.args.x in
     let σ = phrase_of c.tree.within in
@@ -68,7 +69,7 @@ returns-in-Err-clause-found t c =
 pub tree-preserved : goal.tree-preserved
 tree-preserved t c =
     let trees = c.args.pool.now.trees in
-    let on = one_of c.args.places.now in
+    let on = is_one_of c.args.places.now in
     let all = first_read c.args.x on (phrase_of c.args.phrase) c.args.is_side c.args.from (tree_at trees c.args.tree) in
     let x = c.args.x in
     let σ = phrase_of c.tree.within in
@@ -95,7 +96,7 @@ tree-preserved t c =
 pub returns-clause-none : goal.returns-clause-none
 returns-clause-none t c =
     let trees = c.args.pool.now.trees in
-    sym c.tree.invariant.same ∙ read_end c.args.x (one_of c.args.places.now) (phrase_of c.tree.within) c.tree.side c.tree.place (tree_at trees c.tree.at) (empty_at trees c.tree.at c.in_default.is)
+    sym c.tree.invariant.same ∙ read_end c.args.x (is_one_of c.args.places.now) (phrase_of c.tree.within) c.tree.side c.tree.place (tree_at trees c.tree.at) (empty_at trees c.tree.at c.in_default.is)
 
 pub returns-clause-next : goal.returns-clause-next
 returns-clause-next t c = omega (arith, c.tree.invariant.sum, size_end c.args.pool.now.trees c.tree.at c.in_default.is)

@@ -4,7 +4,8 @@ use Rattle.cv_syntax_trees.specs.Tree.{size}
 use Rattle.cv_syntax.specs.PoolTrees.{tree_at}
 use Rattle.cv_syntax.specs.Walks.{above}
 use Rattle.cv_scene_view.specs.phrases.Phrases.{phrase_of}
-use Rattle.cv_rule_birthday.specs.guess.Guessing.{first_read, one_of}
+use Rattle.cv_rule_birthday.specs.Comparing.{is_one_of}
+use Rattle.cv_rule_birthday.specs.guess.Guessing.{first_read}
 use Rattle.cv_rule_birthday.proofs.guess.reads.+other_reads.Given as goal
 
 abbrev pub decreases-other_reads : goal.decreases-other_reads
@@ -15,8 +16,8 @@ invariant-tree l = record {
   live : ChildBelow (length l.pool.trees) l.at;
   less : above l.at ≤ above l.fn.tree;
   sum : l.place + size (tree_at l.pool.trees l.at) ≡ l.fn.from + size (tree_at l.pool.trees l.fn.tree);
-  same : first_read l.x (one_of l.places) (phrase_of l.within) l.side l.place (tree_at l.pool.trees l.at)
-      ≡ first_read l.fn.x (one_of l.fn.places) (phrase_of l.fn.phrase) l.fn.is_side l.fn.from (tree_at l.pool.trees l.fn.tree);
+  same : first_read l.x (is_one_of l.places) (phrase_of l.within) l.side l.place (tree_at l.pool.trees l.at)
+      ≡ first_read l.fn.x (is_one_of l.fn.places) (phrase_of l.fn.phrase) l.fn.is_side l.fn.from (tree_at l.pool.trees l.fn.tree);
 }
 
 abbrev pub decreases-tree : goal.decreases-tree

@@ -6,7 +6,7 @@ use Rattle.cv_script.specs.Views as items
 use Rattle.cv_kernel.specs.Answers.{IsEditPlan}
 use Rattle.cv_kernel.specs.Rules.{rule_of_items}
 use Rattle.cv_kernel.proofs.Planned.{absent, unplaced}
-use Rattle.cv_kernel.proofs.rooms.moved.Goals as goal
+use Rattle.cv_kernel.proofs.rooms.move_edit.Goals as goal
 
 pub returns-in_err-place : goal.returns-in_err-place
 returns-in_err-place c =

@@ -10,7 +10,7 @@ use Rattle.cv_kernel.specs.Answers.{IsEditPlan}
 use Rattle.cv_kernel.specs.Rules.{rule_of_items}
 use Rattle.cv_kernel.proofs.Nodes.{size_nodes}
 use Rattle.cv_kernel.proofs.Planned.{absent, unplaced}
-use Rattle.cv_kernel.proofs.rooms.codefined.Goals as goal
+use Rattle.cv_kernel.proofs.rooms.codef_edit.Goals as goal
 
 pub plan-requires-clause-short : goal.plan-requires-clause-short
 plan-requires-clause-short c = omega (arith, c.requires.short, size_nodes (tree_at c.args.work.now.pool.trees (Some c.args.to)))

@@ -8,7 +8,7 @@ use Rattle.cv_kernel.specs.Answers.{IsPlan, IsUnplanned}
 use Rattle.cv_kernel.specs.Rules.{rule_of_items}
 use Rattle.cv_kernel.proofs.Answers.{plan_free}
 use Rattle.cv_kernel.proofs.Planned.{absent, stands_not}
-use Rattle.cv_kernel.proofs.rooms.missed.Goals as goal
+use Rattle.cv_kernel.proofs.rooms.fresh_plan.Goals as goal
 
 pub returns-in_err-place : goal.returns-in_err-place
 returns-in_err-place c =

@@ -1,4 +1,4 @@
-use Rattle.std.proofs.Common.{arith, refl, subst, Some}
+use Rattle.std.proofs.Common.{arith, refl, subst}
 use Rattle.std.proofs.lemmas.Bool.{and_left}
 use Rattle.cv_syntax.specs.PoolTrees.{tree_at}
 use Rattle.cv_scene.specs.Scenes.{has_place}
@@ -10,7 +10,7 @@ use Rattle.cv_kernel.specs.Answers.{IsEditPlan}
 use Rattle.cv_kernel.specs.Rules.{rule_of_items}
 use Rattle.cv_kernel.proofs.Nodes.{lines_nodes, size_nodes}
 use Rattle.cv_kernel.proofs.Planned.{absent, unplaced}
-use Rattle.cv_kernel.proofs.rooms.picked.Goals as goal
+use Rattle.cv_kernel.proofs.rooms.pick_edit.Goals as goal
 
 pub plan-requires-clause-short : goal.plan-requires-clause-short
 plan-requires-clause-short c = omega (arith, c.requires.short, size_nodes (tree_at c.args.work.now.pool.trees c.args.terms))
