@@ -1,4 +1,5 @@
-// What an accepted file gives the laws of sequences of games.
+// What an accepted file gives the laws of sequences of games, and laws of the kernel: steps with a rule are sound, and from one table of
+// names and one list of steps comes one sequence.
 #![tactic(auto)]
 
 ghost use Rattle.std.specs.Prelude.{◌≡◌, ◌≤◌, ℕ, List, Ok, Some, length};

@@ -1,4 +1,5 @@
-// Products of parameters as factors, costs of collisions with them, and variables that are chosen at random from large types.
+// Products of parameters as factors, costs of collisions with them, and variables that are chosen at random from large types; where a game
+// names variables, what a run doesn't read, and when terms may change at several places.
 #![tactic(auto)]
 
 mod large;

@@ -7,3 +7,4 @@ pub mod Sites
 pub mod Standing
 pub mod Verdicts
 pub mod Walks
+pub mod worked

@@ -10,6 +10,7 @@ mod laws;
 mod reasons;
 mod sight;
 mod sites;
+pub mod worked;
 
 pub use checking::{DeriveFault, check};
 pub use laws::searched_lines_are_visible;

@@ -26,7 +26,7 @@ use Rattle.cv_scope_rules.specs.typing.Wants.{AnyTerm, Message, Messages, Want, 
 use Rattle.cv_typing_runs.specs.Games.{HasArguments, sort_of_meaning}
 use Rattle.cv_typing_runs.proofs.Known.{AreKnown}
 use Rattle.cv_typing_runs.proofs.Terms.{AllSorted, asked_sort, faultless, message_sort, sorted}
-use Rattle.cv_scene.specs.Terms.{above_at, has_site, is_term_at, replications_at, signature_in}
+use Rattle.cv_scene.specs.Terms.{above_under, has_site, is_term_under, signature_in}
 use Rattle.cv_derive_laws.proofs.stores.Terms.{above_matches, term_known, term_typed}
 use Rattle.cv_derive_rules.specs.Inferences.{equations_of}
 use Rattle.cv_scene.specs.Reasons.{is_data_by, is_injective}
@@ -82,10 +82,10 @@ module _ (s : Sight) (i : Interpretation) (at : Indices) (m n : Store) (r : WasR
   V t = value g at n t
 
   abbrev rs : Scope
-  rs = replications_at s.scene s.place
+  rs = s.replications
 
   abbrev above : Above
-  above = above_at s.scene s.place
+  above = above_under s.replications
 
   abbrev e : Signature
   e = signature_in s.scene
@@ -202,7 +202,7 @@ module _ (s : Sight) (i : Interpretation) (at : Indices) (m n : Store) (r : WasR
   abbrev IsCall : Want → Tree → ℕ → Tree → Type 0
   IsCall w a f b = (is_phrase Term (Node (Apply f) a b) ≡ true) × IsTyped e above w (Node (Apply f) a b) × AllKnown (Node (Apply f) a b)
 
-  pub by_data : (t : Tree) → is_term_at s.scene s.place t ≡ true → is_injective s t ≡ true → V t ≡ 1
+  pub by_data : (t : Tree) → is_term_under s.scene s.replications t ≡ true → is_injective s t ≡ true → V t ≡ 1
   unfolding is_phrase IsObeyed AreKnown HasSort
   by_data (Node Eq (Node Eq (Node (Apply f) a b) (Node (Apply k) d j)) u) h z =
       let t : Tree = Node Eq (Node Eq (Node (Apply f) a b) (Node (Apply k) d j)) u in
@@ -211,8 +211,8 @@ module _ (s : Sight) (i : Interpretation) (at : Indices) (m n : Store) (r : WasR
       let same : f ≡ k = eqb-true f k p.0 in
       let x = data_declared g f s.scene.declarations term_for model.each q.0 in
       let phrase = and_parts (is_phrase Term (Node (Apply f) a b)) (is_phrase Term (Node (Apply k) d j)) (and_parts (is_phrase Term (Node Eq (Node (Apply f) a b) (Node (Apply k) d j))) (is_phrase Term u) (and_parts (is_phrase Term t) _ h).0).0 in
-      let typed = term_typed s.scene s.place t h in
-      let known = term_known s.scene s.place t h in
+      let typed = term_typed s.scene s.replications t h in
+      let known = term_known s.scene s.replications t h in
       let sort = (reasons.sorted_term s i at m n r term_for well model closed t h).2 in
       let w : Want = (wants e above AnyTerm Eq (Node (Apply f) a b)).1 in
       let other : IsCall w d f j = subst (λ y. IsCall w d y j) (sym same) (phrase.1, typed.1.2, known.1.2) in

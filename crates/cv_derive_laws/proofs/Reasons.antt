@@ -1,6 +1,6 @@
 -- A line that is right by its reason is true, where the lines that it cites are.
 use Rattle.std.proofs.Common.{◌≡◌, ℕ, zero, suc, ◌<◌, Bool, true, false, cond, is_some, ◌&&◌, ◌||◌, ◌==◌, not, nat_lt, lt-ltb, List, [], ◌∷◌, ◌++◌, map, zip, ◌⊎◌, inl, inr, Option, Some, None, refl, sym, ap, ap₂, subst, ◌∙◌, eqb-true, eq-eqb}
-use Rattle.std.specs.Prelude.{slice_get}
+use Rattle.std.specs.Prelude.{option_map, slice_get}
 use Rattle.std.proofs.lemmas.Bool.{both_ways, and_from, and_parts}
 use Rattle.std.specs.List.{AllByRecursion, list_any}
 use Rattle.cv_syntax_trees.specs.declared.head.Head.{Head}
@@ -27,16 +27,16 @@ use Rattle.cv_directory_sorts.specs.Sorts.{same_sort}
 use Rattle.cv_scope_runs.specs.Promises.{AreIndicesOf}
 use Rattle.cv_typing_runs.specs.Games.{HasArguments, context_of, sort_of_meaning}
 use Rattle.cv_typing_runs.proofs.Terms.{same_sorts}
-use Rattle.cv_scene.specs.Terms.{above_at, is_sort, is_term_at, replications_at, signature_in}
+use Rattle.cv_scene.specs.Terms.{above_under, is_sort, is_term_under, signature_in}
 use Rattle.cv_derive_laws.proofs.stores.Terms.{term_sorted}
 use Rattle.cv_derive_rules.specs.Given.{with_given}
 use Rattle.cv_derive_rules.specs.Inferences.{Visible, are_equal_by, cell_in, cited_cell, is_both, is_left, is_refuted, is_reflexive, is_replaced_by, is_right_side, is_symmetric, is_transitive, number_of, cited_term, term_in}
 use Rattle.cv_derive_rules.specs.Lines.{Statement, Holds, IsDefined}
-use Rattle.cv_scene.specs.Late.{are_current, index_term, is_late, is_late_cell, is_next, without_next}
-use Rattle.cv_scene.specs.Reasons.{are_congruent_by, are_of_types, arguments, equations_in, is_congruent, is_instance, is_reason_of_cell, is_tree}
-use Rattle.cv_scene.specs.Sights.{Sight, from_one, is_cell_at, is_term_of, is_typed, site_cells, site_facts}
+use Rattle.cv_scene.specs.Late.{are_current, index_term, is_alone, is_late, is_late_cell, is_next, without_next}
+use Rattle.cv_scene.specs.Reasons.{are_congruent_by, are_equal_in, are_of_types, arguments, equations_in, is_cell_of, is_congruent, is_distinct_of, is_fact_of, is_given_of, is_instance, is_reason_of_cell, is_tree}
+use Rattle.cv_scene.specs.Sights.{Pair, Sight, from_one, is_cell_under, is_term_of, is_typed, site_cells, site_facts}
 use Rattle.cv_derive_rules.specs.Truths.{is_truth, no}
-use Rattle.cv_derive_laws.specs.stores.Truth.{AreAssigned, AreTrue, HasClosedEquations, IfEquation, IsClosedEquation, IsReached, IsTrue, WasReached, is_name_of}
+use Rattle.cv_derive_laws.specs.stores.Truth.{AreAssigned, AreTrue, HasClosedEquations, IfBeside, IfEquation, IsClosedEquation, IsMetBeside, IsReached, IsTrue, WasReached, is_name_of}
 use Rattle.cv_derive_laws.proofs.Substitution.{names_of, put_value}
 use Rattle.cv_derive_laws.proofs.Truths.{IsBit, below_two, bit_true, equal_true, nought_one, true_equal, truth_holds}
 use Rattle.cv_lists.proofs.Tests.{or_cases}
@@ -95,16 +95,16 @@ module _ (s : Sight) (i : Interpretation) (at : Indices) (m n : Store) (r : WasR
   c = context_of s.scene.declarations s.scene.game
 
   abbrev pub rs : Scope
-  rs = replications_at s.scene s.place
+  rs = s.replications
 
   abbrev pub V : Tree → ℕ
   V t = value g at n t
 
   abbrev pub IsTerm : Tree → Type 0
-  IsTerm t = is_term_at s.scene s.place t ≡ true
+  IsTerm t = is_term_under s.scene s.replications t ≡ true
 
-  pub sorted_term : (t : Tree) → IsTerm t → (S : Sort) × (sort_of (signature_in s.scene) (above_at s.scene s.place) t ≡ Some S) × HasSort c rs t (sort_of_meaning S)
-  sorted_term t e = term_sorted s.scene s.place t term_for well e
+  pub sorted_term : (t : Tree) → IsTerm t → (S : Sort) × (sort_of (signature_in s.scene) (above_under s.replications) t ≡ Some S) × HasSort c rs t (sort_of_meaning S)
+  sorted_term t e = term_sorted s.scene s.replications t term_for well e
 
   term_there : (t : Tree) → IsTerm t → t ≡ Empty → ⊥
   term_there t e = not_empty t (and_parts (is_phrase Term t) _ e).0
@@ -323,18 +323,18 @@ module _ (s : Sight) (i : Interpretation) (at : Indices) (m n : Store) (r : WasR
     unassigned o e f = both_ways (is_some o) (ap is_some e) f
 
     late_cell : IsReached s i at m n → (d ls : Tree) → is_assigned g at m n d ≡ true → is_late_cell s v d ls ≡ true → ⊥
-    late_cell now Empty ls h e = both_ways false refl e
+    late_cell now Empty ls h e = both_ways false refl (and_parts (is_alone s.pair) _ e).1
     late_cell now (Node (Leaf y) a b) ls h e =
-        let p = and_parts (is_late y s.scene.game s.place) _ e in
+        let p = and_parts (is_late y s.scene.game s.place) _ (and_parts (is_alone s.pair) _ e).1 in
         unassigned (m y []) (now.late y [] (tuple at) p.0 refl) h
     late_cell now (Node (Read y) a b) ls h e =
-        let p = and_parts (is_late y s.scene.game s.place) _ e in
-        let q = current_values (replications_at s.scene s.place) at r.indices now.found (items a) (items ls) p.1 in
+        let p = and_parts (is_late y s.scene.game s.place) _ (and_parts (is_alone s.pair) _ e).1 in
+        let q = current_values s.replications at r.indices now.found (items a) (items ls) p.1 in
         unassigned (m y (values g at n a)) (now.late y (values g at n a) q.0 p.0 (ap (λ us. us ++ q.0) (items_values a) ∙ q.1)) h
     late_cell now (Node k a b) ls h e = both_ways false refl h
 
     late_line : IsReached s i at m n → (d ls : Tree) → ((d ≡ Empty → ⊥) → IsFine (IsDefined d)) → is_late_cell s v d ls ≡ true → ⊥
-    late_line now Empty ls f e = both_ways false refl e
+    late_line now Empty ls f e = both_ways false refl (and_parts (is_alone s.pair) _ e).1
     late_line now (Node k a b) ls f e = late_cell now (Node k a b) ls (f (λ z. cc)).holds e
 
     pub by_late : IsReached s i at m n → (l ls : Tree) → is_late_cell s v (cited_cell v l) ls ≡ true → ⊥
@@ -346,15 +346,64 @@ module _ (s : Sight) (i : Interpretation) (at : Indices) (m n : Store) (r : WasR
     pub by_truth : (t : Tree) → IsTerm t → is_truth t ≡ true → V t ≡ 1
     by_truth t k e = let x = sorted_term t k in truth_holds g c rs at n bits t (sort_of_meaning x.0) x.2 e
 
+    -- what a second copy adds
+
+    pub by_other_fact : (k : ℕ) (t : Tree) (o : Option Pair) → IfBeside g at m n o → is_fact_of o k t ≡ true → V t ≡ 1
+    by_other_fact k t None h e = absurd (both_ways false refl e)
+    by_other_fact k t (Some o) h e = item_holds (λ f. V f ≡ 1) o.facts k t h.facts (tree_is (from_one o.facts k) t e)
+
+    pub by_same : (k : ℕ) (t : Tree) (o : Option Pair) → IfBeside g at m n o → is_given_of o k t ≡ true → V t ≡ 1
+    by_same k t None h e = absurd (both_ways false refl e)
+    by_same k t (Some o) h e = item_holds (λ f. V f ≡ 1) o.given k t h.given (tree_is (from_one o.given k) t e)
+
+    by_other_here : (d : Tree) (o : Option Pair) → IfBeside g at m n o → is_cell_of o d ≡ true → is_assigned g at m n d ≡ true
+    by_other_here d None h e = absurd (both_ways false refl e)
+    by_other_here d (Some o) h e = any_holds (λ x. is_assigned g at m n x ≡ true) d o.cells h.cells e
+
+    item_values : (ts : List Tree) (k : ℕ) → option_map V (from_one ts k) ≡ from_one (map V ts) k
+    item_values ts zero = refl
+    item_values ts (suc k) = go ts k
+      where
+        go : (ts : List Tree) (k : ℕ) → option_map V (slice_get ts k) ≡ slice_get (map V ts) k
+        go [] k = refl
+        go (t ∷ ts) zero = refl
+        go (t ∷ ts) (suc k) = go ts k
+
+    equal_items : (a b : Option Tree) (t : Tree) → option_map V a ≡ option_map V b → are_equal_in a b t ≡ true → V t ≡ 1
+    equal_items (Some a) (Some b) t e f = let q : V a ≡ V b = cc in ap V (same_tree_exact t (Node Eq a b) f) ∙ equal a b q
+    equal_items a b t e f = absurd (both_ways false refl f)
+
+    apart : (l c d : Tree) (k : ℕ) (t : Tree) (o : Pair) → IsMetBeside g at m n o → ((c ≡ Empty → ⊥) → IsFine (IsDefined c)) → ((d ≡ Empty → ⊥) → IsFine (IsDefined d)) → is_distinct_of (Some o) (cited_term v l) c d k t ≡ true → V t ≡ 1
+    unfolding value
+    apart l (Node (Read x) a b) (Node (Read y) p q) k t o h f j e =
+        let c : Tree = Node (Read x) a b in
+        let d : Tree = Node (Read y) p q in
+        let w = and_parts (x == y && list_any (λ z. z == x) o.distinct) _ e in
+        let z = and_parts (x == y) (list_any (λ z. z == x) o.distinct) w.0 in
+        let r = and_parts (same_tree (cited_term v l) (Node Eq c d)) _ w.1 in
+        let one : x ≡ y = eqb-true x y z.0 in
+        let there : is_some (m x (values g at n p)) ≡ true = subst (λ y. is_some (m y (values g at n p)) ≡ true) (sym one) (j (λ z. cc)).holds in
+        let line : V c ≡ V d = equals c d (said_is l (Node Eq c d) Eq c d (same_tree_exact (cited_term v l) (Node Eq c d) r.0) refl) in
+        let same = h.distinct x (values g at n a) (values g at n p) z.1 (f (λ z. cc)).holds there (line ∙ ap (λ y. or_zero (n y (values g at n p))) (sym one)) in
+        equal_items (from_one (items a) k) (from_one (items p) k) t
+        (item_values (items a) k ∙ (ap (λ us. from_one us k) (sym (items_values a) ∙ (same ∙ items_values p)) ∙ sym (item_values (items p) k)))
+        r.1
+    apart l c d k t o h f j e = absurd (both_ways false refl e)
+
+    pub by_distinct : (l c d : Tree) (k : ℕ) (t : Tree) (o : Option Pair) → IfBeside g at m n o → is_distinct_of o (cited_term v l) (cited_cell v c) (cited_cell v d) k t ≡ true → V t ≡ 1
+    by_distinct l c d k t None h e = absurd (both_ways false refl e)
+    by_distinct l c d k t (Some o) h e = apart l (cited_cell v c) (cited_cell v d) k t o h (cell_said c) (cell_said d) e
+
     -- cells
 
-    cell_there : (d : Tree) → is_cell_at s.scene s.place d ≡ true → d ≡ Empty → ⊥
+    cell_there : (d : Tree) → is_cell_under s.scene s.replications d ≡ true → d ≡ Empty → ⊥
     cell_there d e = no_cell_empty d (and_parts (is_phrase OneCell d) _ e).0
 
-    pub cell_holds : (d reason : Tree) → is_cell_at s.scene s.place d ≡ true → is_reason_of_cell s v d reason ≡ true → is_assigned g at m n d ≡ true
+    pub cell_holds : (d reason : Tree) → is_cell_under s.scene s.replications d ≡ true → is_reason_of_cell s v d reason ≡ true → is_assigned g at m n d ≡ true
     cell_holds d Empty k e = absurd (both_ways false refl e)
     cell_holds d (Node head.ByHere a b) k e = any_holds (λ x. is_assigned g at m n x ≡ true) d s.cells r.cells e
     cell_holds d (Node head.ByOf l b) k e = any_holds (λ x. is_assigned g at m n x ≡ true) d (site_cells s (cited_cell v l)) (cited_site l).1 e
+    cell_holds d (Node head.ByOtherHere a b) k e = by_other_here d s.pair r.beside e
     cell_holds d (Node head.ByExfalso l b) k e = absurd (said_no l e)
     cell_holds d (Node head.ByAgain l b) k e =
         let q = same_tree_exact d (cited_cell v l) e in
@@ -386,9 +435,9 @@ module _ (s : Sight) (i : Interpretation) (at : Indices) (m n : Store) (r : WasR
 
     of_type : (T : ℕ) (t : Tree) → is_term_of s (OfType T) t ≡ true → V t < i.type_size T
     of_type T t e =
-        let p = and_parts (is_term_at s.scene s.place t) _ e in
+        let p = and_parts (is_term_under s.scene s.replications t) _ e in
         let x = sorted_term t p.0 in
-        r.types t (meaning.OfType T) (subst (λ S. HasSort c rs t (sort_of_meaning S)) (is_of (sort_of (signature_in s.scene) (above_at s.scene s.place) t) x.0 (OfType T) x.1 p.1) x.2)
+        r.types t (meaning.OfType T) (subst (λ S. HasSort c rs t (sort_of_meaning S)) (is_of (sort_of (signature_in s.scene) (above_under s.replications) t) x.0 (OfType T) x.1 p.1) x.2)
 
     all_fit : (bs ms : Tree) → are_of_types s bs ms ≡ true → fits i.type_size bs (values g at n ms) ≡ true
     unfolding values

@@ -1,4 +1,3 @@
 pub mod stores
 pub mod late
 pub mod reached
-pub mod worked

@@ -1,2 +1,1 @@
 pub mod Unassigned
-pub mod Lasting

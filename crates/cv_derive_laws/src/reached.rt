@@ -15,9 +15,10 @@ ghost use Rattle.cv_meaning_laws.specs.adequacy.Counted.{tapes_of};
 ghost use Rattle.cv_scene.specs.Scenes.{Scene};
 ghost use Rattle.cv_scene.specs.Derivations.{Derives};
 ghost use Rattle.cv_derive_rules.specs.Lines.{lines_of, statements};
+ghost use Rattle.cv_scene.specs.Pairs.{pair_at};
 ghost use Rattle.cv_scene.specs.Sights.{sight_at};
-ghost use Rattle.cv_derive_laws.specs.late.Lasting.{LastingHoldAt, WasVisited};
-ghost use Rattle.cv_derive_laws.specs.stores.Truth.{IsTrue};
+ghost use Rattle.cv_derive_laws.specs.reached.Copies.{AreReached, both_copies};
+ghost use Rattle.cv_derive_laws.specs.stores.Truth.{AreApart, AreTrue, IsTrue};
 ghost use Rattle.cv_derive_laws.specs.stores.Holding.{HoldAt, HoldAtConditions, HoldAtFind, HoldAtVisit, IsReady};
 ghost use Rattle.cv_derive_laws.specs.stores.Soundness.{DerivationsHold, DerivedBodiesAreUnreached};
 ghost use Rattle.cv_derive_laws.specs.stores.Unreached.{DerivesFalse, HasNoneAt, IsElsewhere};
@@ -70,12 +71,17 @@ pub fn targets_hold()
         (statements (lines_of targets)) }
 {}
 
-/// At a copy of a place that was visited, what a derivation there ends with stays true as the run goes on, if its
-/// lines are right and none is by `late`, also inside blocks.
-pub fn derivations_without_late_hold_later()
+/// What a derivation at two places ends with is true of two copies that were visited in one run, from then on, if
+/// its lines are right, the given equations hold, and the values of the arrays that are taken to differ do.
+pub fn derivations_of_two_copies_hold()
     ensures { (s : Scene) → IsReady s.declarations s.game → (i : Interpretation) →
-        Satisfies s.declarations i → (place : ℕ) (at : Indices) (x : Memory) →
-        WasVisited s i place at x → LastingHoldAt s i place at x }
+        Satisfies s.declarations i → (p q k : ℕ) (at other : Indices) (x : Memory) →
+        AreReached s i p q k at other x → (given : List Tree) (distinct : List ℕ) →
+        AreTrue (setting_of s.declarations i) (both_copies k at other) x.store x.store given →
+        AreApart distinct x.store x.store → (by targets : Tree) →
+        Derives (pair_at s p q k given distinct) by targets →
+        AllByRecursion (IsTrue (setting_of s.declarations i) (both_copies k at other)
+        x.store x.store) (statements (lines_of targets)) }
 {
     games_are_contexts();
     sites_stand_in_the_game();

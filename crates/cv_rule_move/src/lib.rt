@@ -1,4 +1,5 @@
-// The rule `move`: a definition goes below the construct behind it. Its row, its law and its plan.
+// The rules `move`, where a definition goes below the construct behind it, and `merge`, where a construct whose bodies are all equal becomes
+// its body. Its row, its law and its plan.
 #![tactic(auto)]
 
 ghost use Rattle.std.specs.Prelude.{◌≡◌, ℕ, true};

@@ -45,7 +45,7 @@ use Rattle.cv_derive_laws.proofs.reached.Reached.{same_indices}
 use Rattle.cv_derive_laws.proofs.stores.Sites.{bound_keeps}
 use Rattle.cv_derive_laws.proofs.stores.Terms.{term_sorted}
 use Rattle.cv_scene.specs.Scenes.{Scene}
-use Rattle.cv_scene.specs.Terms.{is_sort, is_term_at}
+use Rattle.cv_scene.specs.Terms.{is_sort, is_term_at, replications_at}
 use Rattle.cv_steps.specs.Rewriting.{sort_at}
 use Rattle.cv_rule_pick.specs.Picking.{Arm, arm_place, guards, guards_with, with_terms}
 use Rattle.cv_rule_pick_laws.proofs.Equal.{IsExpected, names_readable, one_context}
@@ -132,7 +132,7 @@ module _ (s : Scene) (place : ℕ) (ms d e next : Tree) (k : IsPick s place ms d
   sorted_below : (at : Indices) (m : Store) → meaning.AreIndicesOf i (picks.rs s place ms d e next k ready i) at → meaning.IsTypedStore (context_of s.declarations game) i m → (T : ℕ) (t : Tree) → is_term_at s place t ≡ true → is_sort (sort_at s place t) (BelowParameter T) ≡ true
       → value g at m t < i.parameter_value T
   sorted_below at m indices types T t f h =
-      let r = term_sorted s place t ready.arguments ready.formed f in
+      let r = term_sorted s (replications_at s place) t ready.arguments ready.formed f in
       let one : r.0 ≡ BelowParameter T = sort_is r.0 (subst (λ o. is_sort o (BelowParameter T) ≡ true) r.1 h) in
       typed_value (context_of s.declarations game) i no_side (is_model s.declarations game i sat ready.sorts) (picks.rs s place ms d e next k ready i) at m indices types t (meaning.BelowParameter T)
       (subst (λ S. meaning.HasSort (context_of s.declarations game) (picks.rs s place ms d e next k ready i) t (sort_of_meaning S)) one r.2)

@@ -31,7 +31,7 @@ use Rattle.cv_scene.specs.Terms as terms
 use Rattle.cv_steps.specs.Steps.{Step, Zero}
 use Rattle.cv_steps.specs.Judgements.{Accepted, Judgement, Refused, judgement_of}
 use Rattle.cv_steps_laws.specs.Worked.{copies, copy_of, sends_copy}
-use Rattle.cv_derive_laws.specs.worked.Worked.{is_there, line, one}
+use Rattle.cv_derive.specs.worked.Worked.{is_there, line, one}
 use Rattle.cv_costs.specs.names.Reach.{is_in_scope}
 use Rattle.cv_costs.specs.names.Naming.{first_naming}
 use Rattle.cv_rule_pick.specs.Picking.{first_listed, with_terms}

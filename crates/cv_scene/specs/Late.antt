@@ -10,8 +10,7 @@ use Rattle.cv_scope_rules.specs.Context.{items}
 use Rattle.cv_scope_rules.specs.Made.{is_bound, made_by}
 use Rattle.cv_scope_rules.specs.Sites.{Variable}
 use Rattle.cv_derive_rules.specs.Inferences.{Visible, cited_term}
-use Rattle.cv_scene.specs.Sights.{Sight, variable_of}
-use Rattle.cv_scene.specs.Terms.{replications_at}
+use Rattle.cv_scene.specs.Sights.{Pair, Sight, variable_of}
 
 -- some node of the tree defines the variable
 unfoldable pub is_defined_in : ℕ → Tree → Bool
@@ -65,7 +64,12 @@ are_current v (r ∷ rs) (m ∷ ms) ls =
     if same_tree m (index_term r) then are_current v rs ms ls else is_next v ls (Node Eq m (index_term r)) && are_current v rs ms (without_next ls)
 are_current v rs ms ls = false
 
+-- two copies are reached at two moments, so neither tells what comes later
+abbrev pub is_alone : Option Pair → Bool
+is_alone None = true
+is_alone (Some o) = false
+
 -- a cell at current indices of a variable that comes later than the place
 abbrev pub is_late_cell : Sight → Visible → (cell lines : Tree) → Bool
 is_late_cell s v c ls =
-    is_late_one (variable_of c) s.scene.game s.place && are_current v (replications_at s.scene s.place) (items (first c)) (items ls)
+    is_alone s.pair && (is_late_one (variable_of c) s.scene.game s.place && are_current v s.replications (items (first c)) (items ls))

@@ -2,6 +2,7 @@ pub mod Scenes
 pub mod Terms
 pub mod Sights
 pub mod Late
+pub mod Pairs
 pub mod Reasons
 pub mod Derivations
 pub mod Pruning

@@ -1,5 +1,5 @@
 -- The reasons of a derivation: when a line is right, one clause for each. This profile's own.
-use Rattle.std.specs.Prelude.{Bool, true, false, ◌&&◌, ◌==◌, if◌then◌else◌, List, [], ◌∷◌, Option, Some, None}
+use Rattle.std.specs.Prelude.{ℕ, Bool, true, false, ◌&&◌, ◌==◌, if◌then◌else◌, List, [], ◌∷◌, Option, Some, None}
 use Rattle.std.specs.List.{list_any}
 use Rattle.cv_syntax_trees.specs.declared.class.Class.TheVariants.{Fun}
 use Rattle.cv_syntax_trees.specs.declared.head.Head.{Head}
@@ -12,12 +12,11 @@ use Rattle.cv_directory_sorts.specs.declared.sort.Sort.TheVariants.{OfType}
 use Rattle.cv_scope_rules.specs.typing.Signature.{declaration_of}
 use Rattle.cv_scope_rules.specs.Context.{items}
 use Rattle.cv_scope_rules.specs.Rules.{is_index}
-use Rattle.cv_scene.specs.Terms.{replications_at}
 use Rattle.cv_derive_rules.specs.Given.{with_given}
 use Rattle.cv_derive_rules.specs.Inferences.{Visible, are_equal_by, cited_cell, equations_of, is_both, is_left, is_refuted, is_reflexive, is_replaced_by, is_right_side, is_symmetric, is_transitive, number_of, cited_term}
 use Rattle.cv_derive_rules.specs.Lines.{Statement, Holds, IsDefined}
 use Rattle.cv_scene.specs.Late.{is_late_cell}
-use Rattle.cv_scene.specs.Sights.{Sight, from_one, is_term_of, is_typed, site_cells, site_facts}
+use Rattle.cv_scene.specs.Sights.{Pair, Sight, from_one, is_term_of, is_typed, site_cells, site_facts}
 use Rattle.cv_derive_rules.specs.Truths.{is_truth, no}
 
 -- there is a tree, and this is it
@@ -45,7 +44,7 @@ is_instance s (Some e) ms t = are_of_types s (first e) ms && same_tree t (with_g
 abbrev pub arguments : Sight → Head → (a b : Tree) → Option (List Tree)
 arguments s (Apply f) a b = Some (items a)
 arguments s (Read x) a b = Some (items a)
-arguments s (Leaf x) a b = if is_index (replications_at s.scene s.place) x then None else Some []
+arguments s (Leaf x) a b = if is_index s.replications x then None else Some []
 arguments s Eq a b = Some (a ∷ b ∷ [])
 arguments s And a b = Some (a ∷ b ∷ [])
 arguments s Or a b = Some (a ∷ b ∷ [])
@@ -71,6 +70,35 @@ is_injective s (Node Eq (Node Eq (Node (Apply f) a b) (Node (Apply g) c d)) e) =
     f == g && (is_data_by (declaration_of s.scene.declarations f) && same_tree e (equations_of (items a) (items c)))
 is_injective s t = false
 
+-- What a second copy adds: its facts and cells, the given equations; and of two cells of an array whose values are taken to differ, both
+-- of them defined: where their values are equal, so are their indices.
+
+abbrev pub is_fact_of : Option Pair → ℕ → Tree → Bool
+is_fact_of None k t = false
+is_fact_of (Some o) k t = is_tree (from_one o.facts k) t
+
+abbrev pub is_cell_of : Option Pair → Tree → Bool
+is_cell_of None c = false
+is_cell_of (Some o) c = list_any (same_tree c) o.cells
+
+abbrev pub is_given_of : Option Pair → ℕ → Tree → Bool
+is_given_of None k t = false
+is_given_of (Some o) k t = is_tree (from_one o.given k) t
+
+abbrev pub are_of_one : List ℕ → (cell other : Tree) → Bool
+are_of_one xs (Node (Read x) a b) (Node (Read y) c d) = x == y && list_any (λ z. z == x) xs
+are_of_one xs c d = false
+
+abbrev pub are_equal_in : Option Tree → Option Tree → Tree → Bool
+are_equal_in (Some m) (Some n) t = same_tree t (Node Eq m n)
+are_equal_in m n t = false
+
+abbrev pub is_distinct_of : Option Pair → (line cell other : Tree) → ℕ → Tree → Bool
+is_distinct_of None l c d k t = false
+is_distinct_of (Some o) l c d k t =
+    are_of_one o.distinct c d
+    && (same_tree l (Node Eq c d) && are_equal_in (from_one (items (first c)) k) (from_one (items (first d)) k) t)
+
 -- The reasons for a term and for a cell. What is assumed is the condition of the block around, or its negation.
 
 abbrev pub is_reason : Sight → (assumed : Tree) → Visible → (term reason : Tree) → Bool
@@ -92,11 +120,16 @@ is_reason s g v t (Node head.ByData a b) = is_injective s t
 is_reason s g v t (Node head.ByGiven a b) = same_tree t g
 is_reason s g v t (Node head.ByAgain l b) = same_tree t (cited_term v l)
 is_reason s g v t (Node head.ByBool a b) = is_truth t
+is_reason s g v t (Node head.ByOtherFact k b) = is_fact_of s.pair (number_of k) t
+is_reason s g v t (Node head.BySame k b) = is_given_of s.pair (number_of k) t
+is_reason s g v t (Node head.ByDistinct l ds) =
+    is_distinct_of s.pair (cited_term v l) (cited_cell v (first ds)) (cited_cell v (first (second ds))) (number_of (second (second ds))) t
 is_reason s g v t r = false
 
 abbrev pub is_reason_of_cell : Sight → Visible → (cell reason : Tree) → Bool
 is_reason_of_cell s v c (Node head.ByHere a b) = list_any (same_tree c) s.cells
 is_reason_of_cell s v c (Node head.ByOf l b) = list_any (same_tree c) (site_cells s (cited_cell v l))
+is_reason_of_cell s v c (Node head.ByOtherHere a b) = is_cell_of s.pair c
 is_reason_of_cell s v c (Node head.ByExfalso l b) = same_tree (cited_term v l) no
 is_reason_of_cell s v c (Node head.ByAgain l b) = same_tree c (cited_cell v l)
 is_reason_of_cell s v c r = false

@@ -60,33 +60,45 @@ replications_by (Some Γ) = Γ.replications
 abbrev pub replications_at : Scene → ℕ → List (ℕ × ℕ)
 replications_at s p = replications_by (known_at s.game p)
 
+abbrev pub names_under : Scene → List (ℕ × ℕ) → Names
+names_under s rs = record { function = is_function s.declarations; variable = has_site s.game; index = is_index rs }
+
 abbrev pub names_at : Scene → ℕ → Names
-names_at s p = record { function = is_function s.declarations; variable = has_site s.game; index = is_index (replications_at s p) }
+names_at s p = names_under s (replications_at s p)
 
 -- the sorts of these indices, from the outermost on
 abbrev pub indices_above : Above → List (ℕ × ℕ) → Above
 indices_above above [] = above
 indices_above above (r ∷ rs) = indices_above (bound First above r.0 (BelowParameter r.1)) rs
 
+abbrev pub above_under : List (ℕ × ℕ) → Above
+above_under rs = indices_above nothing_above rs
+
 abbrev pub above_at : Scene → ℕ → Above
-above_at s p = indices_above nothing_above (replications_at s p)
+above_at s p = above_under (replications_at s p)
 
 abbrev pub signature_in : Scene → Signature
 signature_in s = signature_of s.declarations (game_part s.game)
 
--- a term whose names are there, and that is typed
-abbrev pub is_term_at : Scene → ℕ → Tree → Bool
-is_term_at s p m =
+-- a term whose names are there, and that is typed, under these indices; and at a place
+abbrev pub is_term_under : Scene → List (ℕ × ℕ) → Tree → Bool
+is_term_under s rs m =
     is_phrase Term m
-    && (is_there (names_at s p) Term m
-    && not (is_some (typing.first_fault (signature_in s) (above_at s p) AnyTerm 0 m)))
+    && (is_there (names_under s rs) Term m
+    && not (is_some (typing.first_fault (signature_in s) (above_under rs) AnyTerm 0 m)))
+
+abbrev pub is_term_at : Scene → ℕ → Tree → Bool
+is_term_at s p m = is_term_under s (replications_at s p) m
 
 abbrev pub is_sort : Option Sort → Sort → Bool
 is_sort None S = false
 is_sort (Some R) S = same_sort R S
 
+abbrev pub is_bool_under : Scene → List (ℕ × ℕ) → Tree → Bool
+is_bool_under s rs m = is_sort (sort_of (signature_in s) (above_under rs) m) boolean
+
 abbrev pub is_bool_at : Scene → ℕ → Tree → Bool
-is_bool_at s p m = is_sort (sort_of (signature_in s) (above_at s p) m) boolean
+is_bool_at s p m = is_bool_under s (replications_at s p) m
 
 -- whole games
 

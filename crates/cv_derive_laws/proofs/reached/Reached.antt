@@ -43,14 +43,13 @@ use Rattle.cv_scene.specs.Scenes.{Scene}
 use Rattle.cv_scene.specs.Terms.{replications_at, replications_by}
 use Rattle.cv_derive_rules.specs.Lines.{lines_of, statements}
 use Rattle.cv_derive_rules.specs.Given.{term_for, or_node, with_given}
-use Rattle.cv_scene.specs.Sights.{Sight, at_site, cells_by, facts_by, only_site, sight_at, site_of}
+use Rattle.cv_scene.specs.Sights.{Pair, Sight, at_site, cells_by, facts_by, only_site, sight_at, variable_of}
 use Rattle.cv_derive_laws.specs.stores.Reached.{BranchSitesStand, CandidateSitesStand, CellsBetween, HasTypes, PlaceCellsBetween, SiteCellsBetween, SitesStandNow}
 use Rattle.cv_scene.specs.Late.{is_late}
-use Rattle.cv_derive_laws.specs.late.Lasting.{LastingHoldAt, WasVisited, first_late_line}
 use Rattle.cv_derive_laws.specs.late.Unassigned.{IsWellVisited, LateAreUnassigned}
 use Rattle.cv_derive_laws.proofs.late.Branches.{AreLate, body_late, branch_phrase, condition_late, find_phrase, first_late, more_phrase, second_late}
 use Rattle.cv_derive_laws.proofs.stores.Sites.{bound_keeps, bound_other}
-use Rattle.cv_derive_laws.specs.stores.Truth.{AreAssigned, AreTrue, IsTrue, WasReached, is_name_of}
+use Rattle.cv_derive_laws.specs.stores.Truth.{AreAssigned, AreTrue, IfBeside, IsTrue, WasReached, is_name_of}
 use Rattle.cv_derive_laws.proofs.Blocks.{derivation_holds}
 use Rattle.cv_derive_laws.proofs.Substitution.{names_of, put_value, put_values}
 use Rattle.cv_derive_laws.specs.reached.Fine.{IsFine, IsFineCell, IsFineTerm, IsNamed}
@@ -58,12 +57,12 @@ use Rattle.cv_derive_laws.specs.stores.Holding.{HoldAt, HoldAtCandidates, HoldAt
 use Rattle.cv_derive_laws.proofs.reached.Bound.{IsGood, candidate_typed, find_good, first_good, rest_good}
 use Rattle.cv_derive_laws.proofs.reached.Targets.{ends_hold}
 use Rattle.cv_derive_laws.proofs.reached.Replications.{Each, above, each_above, no_constants, no_variables, same_replications}
-use Rattle.cv_derive_laws.proofs.reached.Walks.{sites_fine}
+use Rattle.cv_derive_laws.proofs.reached.Walks.{places_fine}
 use Rattle.cv_lists.proofs.Each.{AllByRecursion_append}
 
 -- indices
 
-no_index : (bad : ℕ → Bool) (rs : List (ℕ × ℕ)) (x : ℕ) → Each (λ i. bad i ≡ false) rs → bad x ≡ true → is_index rs x ≡ false
+pub no_index : (bad : ℕ → Bool) (rs : List (ℕ × ℕ)) (x : ℕ) → Each (λ i. bad i ≡ false) rs → bad x ≡ true → is_index rs x ≡ false
 no_index bad [] x e b = refl
 no_index bad (r ∷ rs) x e b = go (r.0 == x) refl (no_index bad rs x e.1 b)
   where
@@ -71,7 +70,7 @@ no_index bad (r ∷ rs) x e b = go (r.0 == x) refl (no_index bad rs x e.1 b)
     go true f k = absurd (both_ways (bad x) (ap bad (sym (eqb-true r.0 x f)) ∙ e.0) b)
     go false f k = k
 
-index_value : (g : Setting) (ix : Indices) (rs : List (ℕ × ℕ)) (x : ℕ) → AreIndicesOf g ix rs → is_index rs x ≡ true → found_in ix x ≡ None → ⊥
+pub index_value : (g : Setting) (ix : Indices) (rs : List (ℕ × ℕ)) (x : ℕ) → AreIndicesOf g ix rs → is_index rs x ≡ true → found_in ix x ≡ None → ⊥
 index_value g [] [] x n e f = both_ways false refl e
 index_value g [] (r ∷ rs) x n e f = n
 index_value g (p ∷ ix) [] x n e f = n
@@ -116,10 +115,10 @@ module _ (s : Scene) (i : Interpretation) (ready : IsReady s.declarations s.game
 
   -- no replication has the name of a constant or of a variable
 
-  constants_apart : (p : ℕ) (Γ : Context) → stands_at s.game p ≡ Some Γ → Each (λ k. is_constant_of s.declarations k ≡ false) Γ.replications
+  pub constants_apart : (p : ℕ) (Γ : Context) → stands_at s.game p ≡ Some Γ → Each (λ k. is_constant_of s.declarations k ≡ false) Γ.replications
   constants_apart p Γ e = each_above (λ k. is_constant_of s.declarations k ≡ false) s.game p Γ (no_constants (is_constant_of s.declarations) s.game ready.formed.constants) e
 
-  variables_apart : (p : ℕ) (Γ : Context) → stands_at s.game p ≡ Some Γ → Each (λ k. is_variable s.game k ≡ false) Γ.replications
+  pub variables_apart : (p : ℕ) (Γ : Context) → stands_at s.game p ≡ Some Γ → Each (λ k. is_variable s.game k ≡ false) Γ.replications
   variables_apart p Γ e = each_above (λ k. is_variable s.game k ≡ false) s.game p Γ (no_variables (scope.names_of s.declarations s.game) at_root s.game ready.formed.scoped) e
 
   behind_place : (q : ℕ) (Δ : Context) → IsBehind s.game (q, Δ) → (p : ℕ) × (stands_at s.game p ≡ Some Δ)
@@ -130,13 +129,13 @@ module _ (s : Scene) (i : Interpretation) (ready : IsReady s.declarations s.game
       go (Some p) e = (p, e)
 
   -- what stands somewhere holds, where cells are looked up in a first store and terms have their values in a second one
-  record IsBetween (Γ : Context) (at : Indices) (m n : Store) : Type 0 where
-    indices : AreIndicesOf g at Γ.replications
-    facts : AreTrue g at m n Γ.facts
-    cells : AreAssigned g at m n Γ.cells
+  pub record IsBetween (Γ : Context) (at : Indices) (m n : Store) : Type 0 where
+    pub indices : AreIndicesOf g at Γ.replications
+    pub facts : AreTrue g at m n Γ.facts
+    pub cells : AreAssigned g at m n Γ.cells
 
   -- behind the only definition of the variable of an assigned cell
-  abbrev SitesBetween : Store → Store → Type 0
+  abbrev pub SitesBetween : Store → Store → Type 0
   SitesBetween m n = (y p : ℕ) (Γ : Context) → sites_of s.game y ≡ (p, Γ) ∷ [] → (u : List ℕ) (v : ℕ) → m y u ≡ Some v → (ix : Indices) × (tuple ix ≡ u) × IsBetween Γ ix m n
 
   -- each current index is found by its name
@@ -147,16 +146,12 @@ module _ (s : Scene) (i : Interpretation) (ready : IsReady s.declarations s.game
   abbrev AreUnassigned : ℕ → Indices → Store → Type 0
   AreUnassigned p at m = (x : ℕ) (u more : List ℕ) → is_late x s.game p ≡ true → u ++ more ≡ tuple at → m x u ≡ None
 
-  module _ (p : ℕ) (Γ : Context) (at : Indices) (m n : Store) (there : stands_at s.game p ≡ Some Γ) (stands : IsBetween Γ at m n) (sites : SitesBetween m n) (types : IsTypedStore (context_of s.declarations s.game) i n) where
-    constant_none : (y : ℕ) → is_constant_of s.declarations y ≡ true → found_in at y ≡ None
-    constant_none y e = index_none g at Γ.replications y stands.indices (no_index (is_constant_of s.declarations) Γ.replications y (constants_apart p Γ there) e)
+  -- in an environment that names neither constants nor variables
 
-    variable_none : (y : ℕ) → is_variable s.game y ≡ true → found_in at y ≡ None
-    variable_none y e = index_none g at Γ.replications y stands.indices (no_index (is_variable s.game) Γ.replications y (variables_apart p Γ there) e)
+  module _ (at : Indices) (rs : List (ℕ × ℕ)) (m n : Store) (indices : AreIndicesOf g at rs) (constant_none : (y : ℕ) → is_constant_of s.declarations y ≡ true → found_in at y ≡ None) (variable_none : (y : ℕ) → is_variable s.game y ≡ true → found_in at y ≡ None) (types : IsTypedStore (context_of s.declarations s.game) i n) where
+    -- what stands at a place, at index terms
 
-    -- what stands at a site, at the index terms of a cell
-
-    module _ (q : ℕ) (Δ : Context) (fine : IsFine s.declarations s.game Δ) (from : IsBehind s.game (q, Δ)) (ix : Indices) (holds : IsBetween Δ ix m n) (terms : Tree) (same : values g at n terms ≡ tuple ix) where
+    module _ (q : ℕ) (Δ : Context) (fine : IsFine s.declarations s.game Δ) (stood : stands_at s.game q ≡ Some Δ) (ix : Indices) (holds : IsBetween Δ ix m n) (terms : Tree) (same : values g at n terms ≡ tuple ix) where
       names : names_of ix ≡ map (λ (r : ℕ × ℕ). r.0) Δ.replications
       names = index_names g ix Δ.replications holds.indices
 
@@ -177,25 +172,21 @@ module _ (s : Scene) (i : Interpretation) (ready : IsReady s.declarations s.game
       unfolding with_given
       cell_holds Empty f e = absurd f
       cell_holds (Node (Leaf y) a b) f e =
-          let z = behind_place q Δ from in
           let none : term_for (map (λ (r : ℕ × ℕ). r.0) Δ.replications) terms y ≡ None =
-          given_none (map (λ (r : ℕ × ℕ). r.0) Δ.replications) terms y (index_named Δ.replications y ∙ no_index (is_variable s.game) Δ.replications y (variables_apart z.0 Δ z.1) f) in
+          given_none (map (λ (r : ℕ × ℕ). r.0) Δ.replications) terms y (index_named Δ.replications y ∙ no_index (is_variable s.game) Δ.replications y (variables_apart q Δ stood) f) in
           ap (λ o. is_assigned g at m n (or_node o (Leaf y) (put a) (put b))) none ∙ e
       cell_holds (Node (Read y) a b) f e =
           ap (λ u. is_some (m y u))
           (ap (λ xs. values g at n (with_given xs terms a)) (sym names) ∙ put_values g at n n (IsNamed s.declarations s.game Δ.replications) (Unit {0}) ix terms same leaf (λ b y u. refl) a f) ∙ e
       cell_holds (Node h a b) f e = absurd f
 
-      facts_hold : (ts : List Tree) → AllByRecursion (IsFineTerm s.declarations s.game Δ.replications) ts → AllByRecursion (λ t. value g ix n t ≡ 1) ts → AreTrue g at m n (map put ts)
+      pub facts_hold : (ts : List Tree) → AllByRecursion (IsFineTerm s.declarations s.game Δ.replications) ts → AllByRecursion (λ t. value g ix n t ≡ 1) ts → AreTrue g at m n (map put ts)
       facts_hold [] f e = tt
       facts_hold (t ∷ ts) f e = (fact_holds t f.0 e.0, facts_hold ts f.1 e.1)
 
-      cells_hold : (ts : List Tree) → AllByRecursion (IsFineCell s.declarations s.game Δ.replications) ts → AllByRecursion (λ t. is_assigned g ix m n t ≡ true) ts → AreAssigned g at m n (map put ts)
+      pub cells_hold : (ts : List Tree) → AllByRecursion (IsFineCell s.declarations s.game Δ.replications) ts → AllByRecursion (λ t. is_assigned g ix m n t ≡ true) ts → AreAssigned g at m n (map put ts)
       cells_hold [] f e = tt
       cells_hold (t ∷ ts) f e = (cell_holds t f.0 e.0, cells_hold ts f.1 e.1)
-
-    abbrev here : Sight
-    here = sight_at s p
 
     abbrev Serves : Tree → Option Context → Type 0
     Serves c o = AreTrue g at m n (at_site (λ (Δ : Context). Δ.facts) c o) × AreAssigned g at m n (at_site (λ (Δ : Context). Δ.cells) c o)
@@ -204,64 +195,72 @@ module _ (s : Scene) (i : Interpretation) (ready : IsReady s.declarations s.game
     some_value None e = absurd (both_ways false refl e)
     some_value (Some v) e = (v, refl)
 
-    one_site : (c : Tree) (y : ℕ) (u : List ℕ) (l : List (ℕ × Context)) → sites_of s.game y ≡ l → values g at n (first c) ≡ u → is_some (m y u) ≡ true → Serves c (only_site l)
-    one_site c y u [] e f k = (tt, tt)
-    one_site c y u (d ∷ (k ∷ l)) e f z = (tt, tt)
-    one_site c y u (d ∷ []) e f k =
+    one_site : SitesBetween m n → (c : Tree) (y : ℕ) (u : List ℕ) (l : List (ℕ × Context)) → sites_of s.game y ≡ l → values g at n (first c) ≡ u → is_some (m y u) ≡ true → Serves c (only_site l)
+    one_site sites c y u [] e f k = (tt, tt)
+    one_site sites c y u (d ∷ (k ∷ l)) e f z = (tt, tt)
+    one_site sites c y u (d ∷ []) e f k =
         let v = some_value (m y u) k in
         let r = sites y d.0 d.1 e u v.0 v.1 in
-        let fine = subst (λ l. AllByRecursion (λ (z : ℕ × Context). IsFine s.declarations s.game z.1) l) e (sites_fine s.declarations s.game y ready.formed.phrase (typed s.declarations s.game ready.arguments ready.formed ready.typed ready.names) ready.cells) in
-        let from = subst (AllByRecursion (IsBehind s.game)) e (behind y) in
+        let from = behind_place d.0 d.1 (subst (AllByRecursion (IsBehind s.game)) e (behind y)).0 in
+        let fine = places_fine s.declarations s.game ready.formed.phrase (typed s.declarations s.game ready.arguments ready.formed ready.typed ready.names) ready.cells from.0 d.1 from.1 in
         let same : values g at n (first c) ≡ tuple r.0 = f ∙ sym r.1 in (
-          facts_hold d.0 d.1 fine.0 from.0 r.0 r.2 (first c) same d.1.facts fine.0.facts r.2.facts,
-          cells_hold d.0 d.1 fine.0 from.0 r.0 r.2 (first c) same d.1.cells fine.0.cells r.2.cells,
+          facts_hold from.0 d.1 fine from.1 r.0 r.2 (first c) same d.1.facts fine.facts r.2.facts,
+          cells_hold from.0 d.1 fine from.1 r.0 r.2 (first c) same d.1.cells fine.cells r.2.cells,
         )
 
-    cell_serves : (c : Tree) → is_phrase OneCell c ≡ true → is_assigned g at m n c ≡ true → Serves c (site_of here c)
+    cell_serves : SitesBetween m n → (c : Tree) → is_phrase OneCell c ≡ true → is_assigned g at m n c ≡ true → Serves c (option_and_then (λ x. only_site (sites_of s.game x)) (variable_of c))
     unfolding is_phrase values
-    cell_serves Empty f e = absurd (both_ways false refl f)
-    cell_serves (Node (Leaf y) a b) f e =
-        one_site (Node (Leaf y) a b) y [] (sites_of s.game y) refl (ap (values g at n) (nil_empty a (and_parts (is_phrase Nil a) (is_phrase Nil b) f).0)) e
-    cell_serves (Node (Read y) a b) f e = one_site (Node (Read y) a b) y (values g at n a) (sites_of s.game y) refl refl e
-    cell_serves (Node h a b) f e = absurd (both_ways false refl f)
+    cell_serves sites Empty f e = absurd (both_ways false refl f)
+    cell_serves sites (Node (Leaf y) a b) f e =
+        one_site sites (Node (Leaf y) a b) y [] (sites_of s.game y) refl (ap (values g at n) (nil_empty a (and_parts (is_phrase Nil a) (is_phrase Nil b) f).0)) e
+    cell_serves sites (Node (Read y) a b) f e = one_site sites (Node (Read y) a b) y (values g at n a) (sites_of s.game y) refl refl e
+    cell_serves sites (Node h a b) f e = absurd (both_ways false refl f)
 
-    known_there : Γ.replications ≡ replications_at s p
+    -- what a derivation may cite there
+    pub seen : SitesBetween m n → (p : ℕ) (facts cells : List Tree) (o : Option Pair) → AreTrue g at m n facts → AreAssigned g at m n cells → IfBeside g at m n o
+        → WasReached (record { scene = s; place = p; replications = rs; facts = facts; cells = cells; pair = o }) i at m n
+    seen sites p facts cells o f d z = record {
+      indices = indices;
+      facts = f;
+      cells = d;
+      constants = constant_none;
+      types = λ t S h. typed_value (context_of s.declarations s.game) i no_side (is_model s.declarations s.game i model ready.sorts) rs at n (same_indices s.declarations i at rs indices) types t S h;
+      sites = λ c k e. cell_serves sites c (and_parts (is_phrase OneCell c) _ k).0 e;
+      beside = z;
+    }
+
+  module _ (p : ℕ) (Γ : Context) (at : Indices) (m n : Store) (there : stands_at s.game p ≡ Some Γ) (stands : IsBetween Γ at m n) (sites : SitesBetween m n) (types : IsTypedStore (context_of s.declarations s.game) i n) where
+    pub constant_none : (y : ℕ) → is_constant_of s.declarations y ≡ true → found_in at y ≡ None
+    constant_none y e = index_none g at Γ.replications y stands.indices (no_index (is_constant_of s.declarations) Γ.replications y (constants_apart p Γ there) e)
+
+    pub variable_none : (y : ℕ) → is_variable s.game y ≡ true → found_in at y ≡ None
+    variable_none y e = index_none g at Γ.replications y stands.indices (no_index (is_variable s.game) Γ.replications y (variables_apart p Γ there) e)
+
+    abbrev here : Sight
+    here = sight_at s p
+
+    pub known_there : Γ.replications ≡ replications_at s p
     known_there = sym (above_known (known_at s.game p) Γ.replications (same_replications s.game p ∙ ap above there))
 
     was_reached : WasReached here i at m n
-    was_reached = record {
-      indices = subst (AreIndicesOf g at) known_there stands.indices;
-      facts = subst (λ o. AreTrue g at m n (facts_by o)) (sym there) stands.facts;
-      cells = subst (λ o. AreAssigned g at m n (cells_by o)) (sym there) stands.cells;
-      constants = constant_none;
-      types = λ t S h.
-          typed_value (context_of s.declarations s.game) i no_side (is_model s.declarations s.game i model ready.sorts) (replications_at s p) at n
-          (subst (λ rs. meaning.AreIndicesOf i rs at) known_there (same_indices s.declarations i at Γ.replications stands.indices)) types t S h;
-      sites = λ c k e. cell_serves c (and_parts (is_phrase OneCell c) _ k).0 e;
-    }
+    was_reached =
+        seen at (replications_at s p) m n (subst (AreIndicesOf g at) known_there stands.indices) constant_none variable_none types sites p (facts_by (stands_at s.game p)) (cells_by (stands_at s.game p)) None
+        (subst (λ o. AreTrue g at m n (facts_by o)) (sym there) stands.facts) (subst (λ o. AreAssigned g at m n (cells_by o)) (sym there) stands.cells) tt
 
     holds_between : AreFound at → AreUnassigned p at m → HoldAt s i p at m n
     holds_between found late by e = derivation_holds here i at m n was_reached ready.arguments ready.formed model ready.equations by (inl (record { was = was_reached; found = found; late = late })) e
 
-    lasting_between : (by : Tree) → first_late_line by ≡ None → first_bad_line here by ≡ None → AllByRecursion (IsTrue g at m n) (statements (lines_of by))
-    lasting_between by l e = derivation_holds here i at m n was_reached ready.arguments ready.formed model ready.equations by (inr l) e
-
   -- in one store
 
-  one_stands : (Γ : Context) (at : Indices) (x : Memory) → StandsIn g Γ at x → IsBetween Γ at x.store x.store
+  pub one_stands : (Γ : Context) (at : Indices) (x : Memory) → StandsIn g Γ at x → IsBetween Γ at x.store x.store
   one_stands Γ at x stands = record { indices = stands.indices; facts = stands.facts; cells = stands.cells }
 
-  one_sites : (x : Memory) → SitesStandNow g s.game x → SitesBetween x.store x.store
+  pub one_sites : (x : Memory) → SitesStandNow g s.game x → SitesBetween x.store x.store
   one_sites x sites y q Δ e u v k = let r = sites y q Δ e u v k in (r.0, r.1, one_stands Δ r.0 x r.2)
 
   holds_there : (p : ℕ) (Γ : Context) (at : Indices) (x : Memory) → stands_at s.game p ≡ Some Γ → StandsIn g Γ at x → SitesStandNow g s.game x → IsTypedStore (context_of s.declarations s.game) i x.store → AreFound at → AreUnassigned p at x.store → HoldAt s i p at x.store x.store
   holds_there p Γ at x there stands sites types found late =
       holds_between p Γ at x.store x.store there (one_stands Γ at x stands) (one_sites x sites) types found late
-
-  pub lasting_hold : (p : ℕ) (at : Indices) (x : Memory) → WasVisited s i p at x → LastingHoldAt s i p at x
-  lasting_hold p at x v by targets d l =
-      ends_hold (IsTrue g at x.store x.store) (statements (lines_of by)) (statements (lines_of targets)) d.end
-      (lasting_between p v.context at x.store x.store v.known (one_stands v.context at x v.stands) (one_sites x v.sites) v.types by l d.right)
 
   -- at visits
 

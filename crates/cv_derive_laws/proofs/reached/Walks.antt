@@ -1,25 +1,45 @@
 -- What stands above the places of a typed game names what it may.
-use Rattle.std.proofs.Common.{◌≡◌, ℕ, Bool, true, false, cond, List, [], ◌∷◌, ◌++◌, ◌⊎◌, inl, inr, refl, sym, subst}
+use Rattle.std.proofs.Common.{◌≡◌, ℕ, ◌+◌, ◌-◌, Bool, true, false, cond, nat_lt, List, [], ◌∷◌, ◌++◌, ◌⊎◌, inl, inr, Some, refl, sym, subst}
 use Rattle.std.proofs.lemmas.Bool.{both_ways, and_parts}
 use Rattle.std.specs.List.{AllByRecursion}
 use Rattle.cv_syntax_trees.specs.declared.head.Head.{Head}
 use Rattle.cv_syntax_trees.specs.declared.head.Head.TheVariants.{Stop, Yield, Par, Repl, In, Out, Event, New, Let, If, Find, Branch, Leaf, Read, Apply, Eq, And, Or, Not, Yes, No, Cons, Binder, Name}
 use Rattle.cv_syntax_trees.specs.Declarations.{Declaration}
-use Rattle.cv_syntax_trees.specs.Tree.{Tree, Empty, Node, second, first_place, second_place}
+use Rattle.cv_syntax_trees.specs.Head.{weight}
+use Rattle.cv_syntax_trees.specs.Tree.{Tree, Empty, Node, second, size}
 use Rattle.cv_meaning_laws.specs.adequacy.Typed as meaning
 use Rattle.cv_meaning_laws.specs.adequacy.Typed.{AreBranches, AreVariables, HasSort, HaveSomeSorts, IsTyped, Scope}
 use Rattle.cv_scope_rules.specs.declared.position.Position.{Position}
 use Rattle.cv_scope_rules.specs.declared.position.Position.TheVariants as position
-use Rattle.cv_scope_rules.specs.Context.{Context, cell_of, cells_of, first_position, items, nothing_known, second_position}
+use Rattle.cv_scope_rules.specs.Context.{Context, cell_of, cells_of, first_position, item_position, items, nothing_known, rest_position, second_position}
 use Rattle.cv_scope_rules.specs.Sites.{Variable}
 use Rattle.cv_scope_rules.specs.Made.{made_by}
 use Rattle.cv_scope_rules.specs.Phrases.{Phrase, Nil, Inputs, Body, Then, Else, Branches, Arm, Pattern, Message, Indices, Binders, Cells, OneCell, Terms, Term, is_phrase}
-use Rattle.cv_scope_rules.specs.Behind.{behind_site, in_body, in_condition, in_list, sites_in, sites_of}
-use Rattle.cv_scope_rules.specs.Above.{first_standing, second_standing, with_failed, with_held}
+use Rattle.cv_scope_rules.specs.Behind.{in_body, in_condition, in_list}
+use Rattle.cv_scope_rules.specs.Above.{first_standing, item_standing, rest_standing, second_standing, standing_at, stands_at, with_failed, with_held}
 use Rattle.cv_typing_runs.specs.Games.{are_named, are_variable_cells, context_of, has_site}
 use Rattle.cv_derive_laws.specs.reached.Fine.{IsFine, IsFineCell, IsFineTerm}
 use Rattle.cv_derive_laws.proofs.reached.Leaves.{cells_fine, more_cell, more_fine, own_cell, own_term, sorted_fine, variable_fine}
 use Rattle.cv_lists.proofs.Each.{AllByRecursion_append, AllByRecursion_weaker}
+
+-- what stands at the item and at the rest of a list is what stands above it
+abbrev IsQuiet : Position → Type 0
+IsQuiet position.Anywhere = Unit {0}
+IsQuiet position.Cells = Unit {0}
+IsQuiet position.OneCell = Unit {0}
+IsQuiet w = ⊥
+
+quiet_item : (w : Position) → IsQuiet w → IsQuiet (item_position w)
+quiet_item position.Anywhere z = tt
+quiet_item position.Cells z = tt
+quiet_item position.OneCell z = tt
+quiet_item w z = absurd z
+
+quiet_rest : (w : Position) → IsQuiet w → IsQuiet (rest_position w)
+quiet_rest position.Anywhere z = tt
+quiet_rest position.Cells z = tt
+quiet_rest position.OneCell z = tt
+quiet_rest w z = absurd z
 
 module _ (ds : List Declaration) (game : Tree) where
   abbrev c : meaning.Context
@@ -80,190 +100,207 @@ module _ (ds : List Declaration) (game : Tree) where
   IsFlat Term = Unit {0}
   IsFlat σ = ⊥
 
-  module _ (y : ℕ) where
-    abbrev AllFine : List (ℕ × Context) → Type 0
-    AllFine ss = AllByRecursion (λ (s : ℕ × Context). Fine s.1) ss
+  -- what is asked of a phrase in which definitions stand
 
-    append_fine : (xs ys : List (ℕ × Context)) → AllFine xs → AllFine ys → AllFine (xs ++ ys)
-    append_fine xs ys h k = AllByRecursion_append (λ (s : ℕ × Context). Fine s.1) xs ys h k
+  abbrev Means : Phrase → Scope → Tree → Type 0
+  Means Branches rs t = AreBranches t × IsTyped c rs t
+  Means Arm rs t = AreBranches (Node Cons t Empty) × IsTyped c rs t
+  Means Inputs rs t = IsTyped c rs t
+  Means Body rs t = IsTyped c rs t
+  Means Then rs t = IsTyped c rs t
+  Means Else rs t = IsTyped c rs t
+  Means σ rs t = ⊥
 
-    none_of : (b : Bool) (p : ℕ) (Γ : Context) → b ≡ false → AllFine (cond b ((p, Γ) ∷ []) [])
-    none_of b p Γ e = subst (λ z. AllFine (cond z ((p, Γ) ∷ []) [])) (sym e) tt
+  abbrev position_of : Phrase → Position
+  position_of Then = position.Bodies
+  position_of Else = position.ElseBody
+  position_of Branches = position.Branches
+  position_of σ = position.Anywhere
 
-    one_of : (b : Bool) (p : ℕ) (Γ : Context) → Fine Γ → AllFine (cond b ((p, Γ) ∷ []) [])
-    one_of true p Γ f = (f, tt)
-    one_of false p Γ f = tt
+  abbrev AllStand : Position → Context → Tree → Type 0
+  AllStand w Γ t = (p : ℕ) (Δ : Context) → standing_at w Γ t p ≡ Some Δ → Fine Δ
 
-    flat_node : (w : Position) (Γ : Context) (p : ℕ) (h : Head) (a b : Tree) → made_by h a (Variable y) ≡ false → AllFine (sites_in y (first_position w h) (first_standing w h Γ) (first_place p h) a)
-        → AllFine (sites_in y (second_position w h) (second_standing w h a Γ) (second_place p h a) b) → AllFine (sites_in y w Γ p (Node h a b))
-    unfolding sites_in
-    flat_node w Γ p h a b e f k = append_fine _ _ (none_of (made_by h a (Variable y)) p (behind_site h a b Γ) e) (append_fine _ _ f k)
+  item_fine : (w : Position) (Γ : Context) → IsQuiet w → Fine Γ → Fine (item_standing w Γ)
+  item_fine position.Anywhere Γ z g = g
+  item_fine position.Cells Γ z g = g
+  item_fine position.OneCell Γ z g = g
+  item_fine w Γ z g = absurd z
 
-    flat_fine : (σ : Phrase) (w : Position) (Γ : Context) (p : ℕ) (t : Tree) → IsFlat σ → is_phrase σ t ≡ true → AllFine (sites_in y w Γ p t)
-    unfolding is_phrase sites_in
-    flat_fine σ w Γ p Empty f e = tt
-    flat_fine Nil w Γ p (Node h a b) f e = absurd (both_ways false refl e)
-    flat_fine Pattern w Γ p (Node Cons a b) f e = let q = and_parts (is_phrase Indices a) (is_phrase Binders b) e in flat_node w Γ p Cons a b refl (flat_fine Indices _ _ _ a tt q.0) (flat_fine Binders _ _ _ b tt q.1)
-    flat_fine Message w Γ p (Node Cons a b) f e = let q = and_parts (is_phrase Indices a) (is_phrase Terms b) e in flat_node w Γ p Cons a b refl (flat_fine Indices _ _ _ a tt q.0) (flat_fine Terms _ _ _ b tt q.1)
-    flat_fine Indices w Γ p (Node (Name x) a b) f e = let q = and_parts (is_phrase Nil a) (is_phrase Indices b) e in flat_node w Γ p (Name x) a b refl (flat_fine Nil _ _ _ a tt q.0) (flat_fine Indices _ _ _ b tt q.1)
-    flat_fine Binders w Γ p (Node (Binder x T) a b) f e = let q = and_parts (is_phrase Nil a) (is_phrase Binders b) e in flat_node w Γ p (Binder x T) a b refl (flat_fine Nil _ _ _ a tt q.0) (flat_fine Binders _ _ _ b tt q.1)
-    flat_fine Cells w Γ p (Node Cons a b) f e = let q = and_parts (is_phrase OneCell a) (is_phrase Cells b) e in flat_node w Γ p Cons a b refl (flat_fine OneCell _ _ _ a tt q.0) (flat_fine Cells _ _ _ b tt q.1)
-    flat_fine OneCell w Γ p (Node (Leaf x) a b) f e = let q = and_parts (is_phrase Nil a) (is_phrase Nil b) e in flat_node w Γ p (Leaf x) a b refl (flat_fine Nil _ _ _ a tt q.0) (flat_fine Nil _ _ _ b tt q.1)
-    flat_fine OneCell w Γ p (Node (Read x) a b) f e = let q = and_parts (is_phrase Terms a) (is_phrase Nil b) e in flat_node w Γ p (Read x) a b refl (flat_fine Terms _ _ _ a tt q.0) (flat_fine Nil _ _ _ b tt q.1)
-    flat_fine Terms w Γ p (Node Cons a b) f e = let q = and_parts (is_phrase Term a) (is_phrase Terms b) e in flat_node w Γ p Cons a b refl (flat_fine Term _ _ _ a tt q.0) (flat_fine Terms _ _ _ b tt q.1)
-    flat_fine Term w Γ p (Node (Leaf x) a b) f e = let q = and_parts (is_phrase Nil a) (is_phrase Nil b) e in flat_node w Γ p (Leaf x) a b refl (flat_fine Nil _ _ _ a tt q.0) (flat_fine Nil _ _ _ b tt q.1)
-    flat_fine Term w Γ p (Node (Read x) a b) f e = let q = and_parts (is_phrase Terms a) (is_phrase Nil b) e in flat_node w Γ p (Read x) a b refl (flat_fine Terms _ _ _ a tt q.0) (flat_fine Nil _ _ _ b tt q.1)
-    flat_fine Term w Γ p (Node (Apply x) a b) f e = let q = and_parts (is_phrase Terms a) (is_phrase Nil b) e in flat_node w Γ p (Apply x) a b refl (flat_fine Terms _ _ _ a tt q.0) (flat_fine Nil _ _ _ b tt q.1)
-    flat_fine Term w Γ p (Node Eq a b) f e = let q = and_parts (is_phrase Term a) (is_phrase Term b) e in flat_node w Γ p Eq a b refl (flat_fine Term _ _ _ a tt q.0) (flat_fine Term _ _ _ b tt q.1)
-    flat_fine Term w Γ p (Node And a b) f e = let q = and_parts (is_phrase Term a) (is_phrase Term b) e in flat_node w Γ p And a b refl (flat_fine Term _ _ _ a tt q.0) (flat_fine Term _ _ _ b tt q.1)
-    flat_fine Term w Γ p (Node Or a b) f e = let q = and_parts (is_phrase Term a) (is_phrase Term b) e in flat_node w Γ p Or a b refl (flat_fine Term _ _ _ a tt q.0) (flat_fine Term _ _ _ b tt q.1)
-    flat_fine Term w Γ p (Node Not a b) f e = let q = and_parts (is_phrase Term a) (is_phrase Nil b) e in flat_node w Γ p Not a b refl (flat_fine Term _ _ _ a tt q.0) (flat_fine Nil _ _ _ b tt q.1)
-    flat_fine Term w Γ p (Node Yes a b) f e = let q = and_parts (is_phrase Nil a) (is_phrase Nil b) e in flat_node w Γ p Yes a b refl (flat_fine Nil _ _ _ a tt q.0) (flat_fine Nil _ _ _ b tt q.1)
-    flat_fine Term w Γ p (Node No a b) f e = let q = and_parts (is_phrase Nil a) (is_phrase Nil b) e in flat_node w Γ p No a b refl (flat_fine Nil _ _ _ a tt q.0) (flat_fine Nil _ _ _ b tt q.1)
-    flat_fine Pattern w Γ p (Node h a b) f e = absurd (both_ways false refl e)
-    flat_fine Message w Γ p (Node h a b) f e = absurd (both_ways false refl e)
-    flat_fine Indices w Γ p (Node h a b) f e = absurd (both_ways false refl e)
-    flat_fine Binders w Γ p (Node h a b) f e = absurd (both_ways false refl e)
-    flat_fine Cells w Γ p (Node h a b) f e = absurd (both_ways false refl e)
-    flat_fine OneCell w Γ p (Node h a b) f e = absurd (both_ways false refl e)
-    flat_fine Terms w Γ p (Node h a b) f e = absurd (both_ways false refl e)
-    flat_fine Term w Γ p (Node h a b) f e = absurd (both_ways false refl e)
-    flat_fine σ w Γ p (Node h a b) f e = absurd f
+  rest_fine : (w : Position) (a : Tree) (Γ : Context) → IsQuiet w → Fine Γ → Fine (rest_standing w a Γ)
+  rest_fine position.Anywhere a Γ z g = g
+  rest_fine position.Cells a Γ z g = g
+  rest_fine position.OneCell a Γ z g = g
+  rest_fine w a Γ z g = absurd z
 
-    -- what is asked of a phrase in which definitions stand
+  nothing_stands : (w : Position) (Γ : Context) → AllStand w Γ Empty
+  unfolding standing_at
+  nothing_stands w Γ p Δ e = absurd (cc)
 
-    abbrev Means : Phrase → Scope → Tree → Type 0
-    Means Branches rs t = AreBranches t × IsTyped c rs t
-    Means Arm rs t = AreBranches (Node Cons t Empty) × IsTyped c rs t
-    Means Inputs rs t = IsTyped c rs t
-    Means Body rs t = IsTyped c rs t
-    Means Then rs t = IsTyped c rs t
-    Means Else rs t = IsTyped c rs t
-    Means σ rs t = ⊥
+  stand_node : (w : Position) (Γ : Context) (h : Head) (a b : Tree) → Fine Γ → AllStand (first_position w h) (first_standing w h Γ) a → AllStand (second_position w h) (second_standing w h a Γ) b → AllStand w Γ (Node h a b)
+  unfolding standing_at
+  stand_node w Γ h a b f k l p Δ e = go (nat_lt p (weight h)) (nat_lt p (weight h + size a)) e
+    where
+      go : (x y : Bool) → cond x (Some Γ) (cond y (standing_at (first_position w h) (first_standing w h Γ) a (p - weight h)) (standing_at (second_position w h) (second_standing w h a Γ) b (p - (weight h + size a)))) ≡ Some Δ → Fine Δ
+      go true y e = let q : Γ ≡ Δ = cc in subst Fine q f
+      go false true e = k (p - weight h) Δ e
+      go false false e = l (p - (weight h + size a)) Δ e
 
-    abbrev position_of : Phrase → Position
-    position_of Then = position.Bodies
-    position_of Else = position.ElseBody
-    position_of Branches = position.Branches
-    position_of σ = position.Anywhere
+  nil_stands : (w : Position) (Γ : Context) (t : Tree) → is_phrase Nil t ≡ true → AllStand w Γ t
+  unfolding is_phrase
+  nil_stands w Γ Empty e = nothing_stands w Γ
+  nil_stands w Γ (Node h a b) e = absurd (both_ways false refl e)
 
-    node_fine : (w : Position) (Γ : Context) (p : ℕ) (h : Head) (a b : Tree) → Fine (behind_site h a b Γ) → AllFine (sites_in y (first_position w h) (first_standing w h Γ) (first_place p h) a)
-        → AllFine (sites_in y (second_position w h) (second_standing w h a Γ) (second_place p h a) b) → AllFine (sites_in y w Γ p (Node h a b))
-    unfolding sites_in
-    node_fine w Γ p h a b e f k = append_fine _ _ (one_of (made_by h a (Variable y)) p (behind_site h a b Γ) e) (append_fine _ _ f k)
+  flat_stands : (σ : Phrase) (w : Position) (Γ : Context) (t : Tree) → IsFlat σ → IsQuiet w → is_phrase σ t ≡ true → Fine Γ → AllStand w Γ t
+  unfolding is_phrase
+  flat_stands σ w Γ Empty f z e g = nothing_stands w Γ
+  flat_stands Nil w Γ (Node h a b) f z e g = absurd (both_ways false refl e)
+  flat_stands Pattern w Γ (Node Cons a b) f z e g =
+      let q = and_parts (is_phrase Indices a) (is_phrase Binders b) e in
+      stand_node w Γ Cons a b g (flat_stands Indices _ _ a tt (quiet_item w z) q.0 (item_fine w Γ z g)) (flat_stands Binders _ _ b tt (quiet_rest w z) q.1 (rest_fine w a Γ z g))
+  flat_stands Message w Γ (Node Cons a b) f z e g =
+      let q = and_parts (is_phrase Indices a) (is_phrase Terms b) e in
+      stand_node w Γ Cons a b g (flat_stands Indices _ _ a tt (quiet_item w z) q.0 (item_fine w Γ z g)) (flat_stands Terms _ _ b tt (quiet_rest w z) q.1 (rest_fine w a Γ z g))
+  flat_stands Indices w Γ (Node (Name x) a b) f z e g = let q = and_parts (is_phrase Nil a) (is_phrase Indices b) e in stand_node w Γ (Name x) a b g (flat_stands Nil _ _ a tt tt q.0 g) (flat_stands Indices _ _ b tt tt q.1 g)
+  flat_stands Binders w Γ (Node (Binder x T) a b) f z e g = let q = and_parts (is_phrase Nil a) (is_phrase Binders b) e in stand_node w Γ (Binder x T) a b g (flat_stands Nil _ _ a tt tt q.0 g) (flat_stands Binders _ _ b tt tt q.1 g)
+  flat_stands Cells w Γ (Node Cons a b) f z e g =
+      let q = and_parts (is_phrase OneCell a) (is_phrase Cells b) e in
+      stand_node w Γ Cons a b g (flat_stands OneCell _ _ a tt (quiet_item w z) q.0 (item_fine w Γ z g)) (flat_stands Cells _ _ b tt (quiet_rest w z) q.1 (rest_fine w a Γ z g))
+  flat_stands OneCell w Γ (Node (Leaf x) a b) f z e g = let q = and_parts (is_phrase Nil a) (is_phrase Nil b) e in stand_node w Γ (Leaf x) a b g (flat_stands Nil _ _ a tt tt q.0 g) (flat_stands Nil _ _ b tt tt q.1 g)
+  flat_stands OneCell w Γ (Node (Read x) a b) f z e g = let q = and_parts (is_phrase Terms a) (is_phrase Nil b) e in stand_node w Γ (Read x) a b g (flat_stands Terms _ _ a tt tt q.0 g) (flat_stands Nil _ _ b tt tt q.1 g)
+  flat_stands Terms w Γ (Node Cons a b) f z e g =
+      let q = and_parts (is_phrase Term a) (is_phrase Terms b) e in
+      stand_node w Γ Cons a b g (flat_stands Term _ _ a tt (quiet_item w z) q.0 (item_fine w Γ z g)) (flat_stands Terms _ _ b tt (quiet_rest w z) q.1 (rest_fine w a Γ z g))
+  flat_stands Term w Γ (Node (Leaf x) a b) f z e g = let q = and_parts (is_phrase Nil a) (is_phrase Nil b) e in stand_node w Γ (Leaf x) a b g (flat_stands Nil _ _ a tt tt q.0 g) (flat_stands Nil _ _ b tt tt q.1 g)
+  flat_stands Term w Γ (Node (Read x) a b) f z e g = let q = and_parts (is_phrase Terms a) (is_phrase Nil b) e in stand_node w Γ (Read x) a b g (flat_stands Terms _ _ a tt tt q.0 g) (flat_stands Nil _ _ b tt tt q.1 g)
+  flat_stands Term w Γ (Node (Apply x) a b) f z e g = let q = and_parts (is_phrase Terms a) (is_phrase Nil b) e in stand_node w Γ (Apply x) a b g (flat_stands Terms _ _ a tt tt q.0 g) (flat_stands Nil _ _ b tt tt q.1 g)
+  flat_stands Term w Γ (Node Eq a b) f z e g = let q = and_parts (is_phrase Term a) (is_phrase Term b) e in stand_node w Γ Eq a b g (flat_stands Term _ _ a tt tt q.0 g) (flat_stands Term _ _ b tt tt q.1 g)
+  flat_stands Term w Γ (Node And a b) f z e g = let q = and_parts (is_phrase Term a) (is_phrase Term b) e in stand_node w Γ And a b g (flat_stands Term _ _ a tt tt q.0 g) (flat_stands Term _ _ b tt tt q.1 g)
+  flat_stands Term w Γ (Node Or a b) f z e g = let q = and_parts (is_phrase Term a) (is_phrase Term b) e in stand_node w Γ Or a b g (flat_stands Term _ _ a tt tt q.0 g) (flat_stands Term _ _ b tt tt q.1 g)
+  flat_stands Term w Γ (Node Not a b) f z e g = let q = and_parts (is_phrase Term a) (is_phrase Nil b) e in stand_node w Γ Not a b g (flat_stands Term _ _ a tt tt q.0 g) (flat_stands Nil _ _ b tt tt q.1 g)
+  flat_stands Term w Γ (Node Yes a b) f z e g = let q = and_parts (is_phrase Nil a) (is_phrase Nil b) e in stand_node w Γ Yes a b g (flat_stands Nil _ _ a tt tt q.0 g) (flat_stands Nil _ _ b tt tt q.1 g)
+  flat_stands Term w Γ (Node No a b) f z e g = let q = and_parts (is_phrase Nil a) (is_phrase Nil b) e in stand_node w Γ No a b g (flat_stands Nil _ _ a tt tt q.0 g) (flat_stands Nil _ _ b tt tt q.1 g)
+  flat_stands Pattern w Γ (Node h a b) f z e g = absurd (both_ways false refl e)
+  flat_stands Message w Γ (Node h a b) f z e g = absurd (both_ways false refl e)
+  flat_stands Indices w Γ (Node h a b) f z e g = absurd (both_ways false refl e)
+  flat_stands Binders w Γ (Node h a b) f z e g = absurd (both_ways false refl e)
+  flat_stands Cells w Γ (Node h a b) f z e g = absurd (both_ways false refl e)
+  flat_stands OneCell w Γ (Node h a b) f z e g = absurd (both_ways false refl e)
+  flat_stands Terms w Γ (Node h a b) f z e g = absurd (both_ways false refl e)
+  flat_stands Term w Γ (Node h a b) f z e g = absurd (both_ways false refl e)
+  flat_stands σ w Γ (Node h a b) f z e g = absurd f
 
-    fine_sites : (σ : Phrase) (Γ : Context) (p : ℕ) (t : Tree) → is_phrase σ t ≡ true → Means σ Γ.replications t → are_named ds (has_site game) (position_of σ) t ≡ true → Fine Γ → AllFine (sites_in y (position_of σ) Γ p t)
-    unfolding is_phrase IsTyped are_named sites_in
-    fine_sites Inputs Γ p (Node Stop a b) q h v f = let r = and_parts (is_phrase Nil a) (is_phrase Nil b) q in flat_node position.Anywhere Γ p Stop a b refl (flat_fine Nil _ _ _ a tt r.0) (flat_fine Nil _ _ _ b tt r.1)
-    fine_sites Inputs Γ p (Node Par a b) q h v f =
-        let r = and_parts (is_phrase Inputs a) (is_phrase Inputs b) q in
-        let z = and_parts (are_named ds (has_site game) position.Anywhere a) _ v in
-        flat_node position.Anywhere Γ p Par a b refl (fine_sites Inputs Γ (first_place p Par) a r.0 h.0 z.0 f) (fine_sites Inputs Γ (second_place p Par a) b r.1 h.1 z.1 f)
-    fine_sites Inputs Γ p (Node (Repl i n) a b) q h v f =
-        let r = and_parts (is_phrase Nil a) (is_phrase Inputs b) q in
-        let z = and_parts (are_named ds (has_site game) position.Anywhere a) _ v in
-        flat_node position.Anywhere Γ p (Repl i n) a b refl (flat_fine Nil _ _ _ a tt r.0) (fine_sites Inputs (record Γ { replications = Γ.replications ++ (i, n) ∷ []; own = [] }) (second_place p (Repl i n) a) b r.1 h z.1 (below Γ i n f))
-    fine_sites Inputs Γ p (Node (In x) a b) q h v f =
-        let r = and_parts (is_phrase Pattern a) (is_phrase Body b) q in
-        let z = and_parts (are_named ds (has_site game) position.Anywhere a) _ v in
-        let k = with_more Γ (cells_of Γ.replications (second a)) (bound_fine Γ.replications meaning.OfType (second a) h.0) f in
-        node_fine position.Anywhere Γ p (In x) a b k (flat_fine Pattern _ _ _ a tt r.0) (fine_sites Body _ (second_place p (In x) a) b r.1 h.1 z.1 k)
-    fine_sites Inputs Γ p t q h v f = absurd (both_ways false refl q)
-    fine_sites Body Γ p (Node Yield a b) q h v f = let r = and_parts (is_phrase Nil a) (is_phrase Nil b) q in flat_node position.Anywhere Γ p Yield a b refl (flat_fine Nil _ _ _ a tt r.0) (flat_fine Nil _ _ _ b tt r.1)
-    fine_sites Body Γ p (Node (Out x) a b) q h v f =
-        let r = and_parts (is_phrase Message a) (is_phrase Inputs b) q in
-        let z = and_parts (are_named ds (has_site game) position.Anywhere a) _ v in
-        flat_node position.Anywhere Γ p (Out x) a b refl (flat_fine Message _ _ _ a tt r.0) (fine_sites Inputs Γ (second_place p (Out x) a) b r.1 h.1 z.1 f)
-    fine_sites Body Γ p (Node (New x T) a b) q h v f =
-        let r = and_parts (is_phrase Nil a) (is_phrase Body b) q in
-        let z = and_parts (are_named ds (has_site game) position.Anywhere a) _ v in
-        let k = with_more Γ (cell_of Γ.replications x ∷ []) (own_cell ds game Γ.replications x (variable_fine ds game Γ.replications x (meaning.OfType T) h.0), tt) f in
-        node_fine position.Anywhere Γ p (New x T) a b k (flat_fine Nil _ _ _ a tt r.0) (fine_sites Body _ (second_place p (New x T) a) b r.1 h.1 z.1 k)
-    fine_sites Body Γ p (Node (Let x T) a b) q h v f =
-        let r = and_parts (is_phrase Term a) (is_phrase Body b) q in
-        let z = and_parts (are_named ds (has_site game) position.Anywhere a) _ v in
-        let there = variable_fine ds game Γ.replications x (meaning.OfType T) h.0 in
-        let m = with_more Γ (cell_of Γ.replications x ∷ []) (own_cell ds game Γ.replications x there, tt) f in
-        let k = with_fact (record Γ { cells = Γ.cells ++ cell_of Γ.replications x ∷ [] }) (Node Eq (cell_of Γ.replications x) a) (own_term ds game Γ.replications x there, sorted_fine ds game Γ.replications a (meaning.OfType T) r.0 h.1) m in
-        node_fine position.Anywhere Γ p (Let x T) a b k (flat_fine Term _ _ _ a tt r.0) (fine_sites Body _ (second_place p (Let x T) a) b r.1 h.2 z.1 k)
-    fine_sites Body Γ p (Node (Event x) a b) q h v f =
-        let r = and_parts (is_phrase Terms a) (is_phrase Body b) q in
-        let z = and_parts (are_named ds (has_site game) position.Anywhere a) _ v in
-        flat_node position.Anywhere Γ p (Event x) a b refl (flat_fine Terms _ _ _ a tt r.0)
-        (fine_sites Body _ (second_place p (Event x) a) b r.1 h.1 z.1 (record { facts = f.facts; cells = f.cells; own = f.own; tested = f.tested }))
-    fine_sites Body Γ p (Node If a b) q h v f =
-        let r = and_parts (is_phrase Term a) (is_phrase Then b) q in
-        let z = and_parts (are_named ds (has_site game) position.Anywhere a) _ v in
-        flat_node position.Anywhere Γ p If a b refl (flat_fine Term _ _ _ a tt r.0)
-        (fine_sites Then _ (second_place p If a) b r.1 h.1 z.1 (record { facts = f.facts; cells = f.cells; own = f.own; tested = inr (sorted_fine ds game Γ.replications a meaning.boolean r.0 h.0) }))
-    fine_sites Body Γ p (Node (Find l) a b) q h v f =
-        let r = and_parts (is_phrase Branches a) (is_phrase Body b) q in
-        let z = and_parts (are_named ds (has_site game) position.Branches a) _ v in
-        flat_node position.Anywhere Γ p (Find l) a b refl (fine_sites Branches Γ (first_place p (Find l)) a r.0 (h.0, h.1) z.0 f) (fine_sites Body Γ (second_place p (Find l) a) b r.1 h.2 z.1 f)
-    fine_sites Body Γ p t q h v f = absurd (both_ways false refl q)
-    fine_sites Then Γ p (Node Cons a b) q h v f =
-        let r = and_parts (is_phrase Body a) (is_phrase Else b) q in
-        let z = and_parts (are_named ds (has_site game) position.Anywhere a) _ v in
-        flat_node position.Bodies Γ p Cons a b refl (body (with_held Γ Γ.tested) (held_same Γ Γ.tested) (first_place p Cons) (fine_sites Body (with_held Γ Γ.tested) (first_place p Cons) a r.0) h.0 z.0 (held Γ Γ.tested f.tested f)) (fine_sites Else Γ (second_place p Cons a) b r.1 h.1 z.1 f)
-      where
-        held_same : (Γ : Context) (t : Tree) → (with_held Γ t).replications ≡ Γ.replications
-        held_same Γ Empty = refl
-        held_same Γ (Node k c d) = refl
+  stands_fine : (σ : Phrase) (Γ : Context) (t : Tree) → is_phrase σ t ≡ true → Means σ Γ.replications t → are_named ds (has_site game) (position_of σ) t ≡ true → Fine Γ → AllStand (position_of σ) Γ t
+  unfolding is_phrase IsTyped are_named
+  stands_fine Inputs Γ (Node Stop a b) q h v f = let r = and_parts (is_phrase Nil a) (is_phrase Nil b) q in stand_node position.Anywhere Γ Stop a b f (nil_stands _ _ a r.0) (nil_stands _ _ b r.1)
+  stands_fine Inputs Γ (Node Par a b) q h v f =
+      let r = and_parts (is_phrase Inputs a) (is_phrase Inputs b) q in
+      let z = and_parts (are_named ds (has_site game) position.Anywhere a) _ v in
+      stand_node position.Anywhere Γ Par a b f (stands_fine Inputs Γ a r.0 h.0 z.0 f) (stands_fine Inputs Γ b r.1 h.1 z.1 f)
+  stands_fine Inputs Γ (Node (Repl i n) a b) q h v f =
+      let r = and_parts (is_phrase Nil a) (is_phrase Inputs b) q in
+      let z = and_parts (are_named ds (has_site game) position.Anywhere a) _ v in
+      stand_node position.Anywhere Γ (Repl i n) a b f (nil_stands _ _ a r.0) (stands_fine Inputs (record Γ { replications = Γ.replications ++ (i, n) ∷ []; own = [] }) b r.1 h z.1 (below Γ i n f))
+  stands_fine Inputs Γ (Node (In x) a b) q h v f =
+      let r = and_parts (is_phrase Pattern a) (is_phrase Body b) q in
+      let z = and_parts (are_named ds (has_site game) position.Anywhere a) _ v in
+      let k = with_more Γ (cells_of Γ.replications (second a)) (bound_fine Γ.replications meaning.OfType (second a) h.0) f in
+      stand_node position.Anywhere Γ (In x) a b f (flat_stands Pattern _ _ a tt tt r.0 f) (stands_fine Body _ b r.1 h.1 z.1 k)
+  stands_fine Inputs Γ t q h v f = absurd (both_ways false refl q)
+  stands_fine Body Γ (Node Yield a b) q h v f = let r = and_parts (is_phrase Nil a) (is_phrase Nil b) q in stand_node position.Anywhere Γ Yield a b f (nil_stands _ _ a r.0) (nil_stands _ _ b r.1)
+  stands_fine Body Γ (Node (Out x) a b) q h v f =
+      let r = and_parts (is_phrase Message a) (is_phrase Inputs b) q in
+      let z = and_parts (are_named ds (has_site game) position.Anywhere a) _ v in
+      stand_node position.Anywhere Γ (Out x) a b f (flat_stands Message _ _ a tt tt r.0 f) (stands_fine Inputs Γ b r.1 h.1 z.1 f)
+  stands_fine Body Γ (Node (New x T) a b) q h v f =
+      let r = and_parts (is_phrase Nil a) (is_phrase Body b) q in
+      let z = and_parts (are_named ds (has_site game) position.Anywhere a) _ v in
+      let k = with_more Γ (cell_of Γ.replications x ∷ []) (own_cell ds game Γ.replications x (variable_fine ds game Γ.replications x (meaning.OfType T) h.0), tt) f in
+      stand_node position.Anywhere Γ (New x T) a b f (nil_stands _ _ a r.0) (stands_fine Body _ b r.1 h.1 z.1 k)
+  stands_fine Body Γ (Node (Let x T) a b) q h v f =
+      let r = and_parts (is_phrase Term a) (is_phrase Body b) q in
+      let z = and_parts (are_named ds (has_site game) position.Anywhere a) _ v in
+      let there = variable_fine ds game Γ.replications x (meaning.OfType T) h.0 in
+      let m = with_more Γ (cell_of Γ.replications x ∷ []) (own_cell ds game Γ.replications x there, tt) f in
+      let k = with_fact (record Γ { cells = Γ.cells ++ cell_of Γ.replications x ∷ [] }) (Node Eq (cell_of Γ.replications x) a) (own_term ds game Γ.replications x there, sorted_fine ds game Γ.replications a (meaning.OfType T) r.0 h.1) m in
+      stand_node position.Anywhere Γ (Let x T) a b f (flat_stands Term _ _ a tt tt r.0 f) (stands_fine Body _ b r.1 h.2 z.1 k)
+  stands_fine Body Γ (Node (Event x) a b) q h v f =
+      let r = and_parts (is_phrase Terms a) (is_phrase Body b) q in
+      let z = and_parts (are_named ds (has_site game) position.Anywhere a) _ v in
+      stand_node position.Anywhere Γ (Event x) a b f (flat_stands Terms _ _ a tt tt r.0 f)
+      (stands_fine Body _ b r.1 h.1 z.1 (record { facts = f.facts; cells = f.cells; own = f.own; tested = f.tested }))
+  stands_fine Body Γ (Node If a b) q h v f =
+      let r = and_parts (is_phrase Term a) (is_phrase Then b) q in
+      let z = and_parts (are_named ds (has_site game) position.Anywhere a) _ v in
+      stand_node position.Anywhere Γ If a b f (flat_stands Term _ _ a tt tt r.0 f)
+      (stands_fine Then _ b r.1 h.1 z.1 (record { facts = f.facts; cells = f.cells; own = f.own; tested = inr (sorted_fine ds game Γ.replications a meaning.boolean r.0 h.0) }))
+  stands_fine Body Γ (Node (Find l) a b) q h v f =
+      let r = and_parts (is_phrase Branches a) (is_phrase Body b) q in
+      let z = and_parts (are_named ds (has_site game) position.Branches a) _ v in
+      stand_node position.Anywhere Γ (Find l) a b f (stands_fine Branches Γ a r.0 (h.0, h.1) z.0 f) (stands_fine Body Γ b r.1 h.2 z.1 f)
+  stands_fine Body Γ t q h v f = absurd (both_ways false refl q)
+  stands_fine Then Γ (Node Cons a b) q h v f =
+      let r = and_parts (is_phrase Body a) (is_phrase Else b) q in
+      let z = and_parts (are_named ds (has_site game) position.Anywhere a) _ v in
+      stand_node position.Bodies Γ Cons a b f (body (with_held Γ Γ.tested) (held_same Γ Γ.tested) (stands_fine Body (with_held Γ Γ.tested) a r.0) h.0 z.0 (held Γ Γ.tested f.tested f)) (stands_fine Else Γ b r.1 h.1 z.1 f)
+    where
+      held_same : (Γ : Context) (t : Tree) → (with_held Γ t).replications ≡ Γ.replications
+      held_same Γ Empty = refl
+      held_same Γ (Node k c d) = refl
 
-        body : (Δ : Context) → Δ.replications ≡ Γ.replications → (p : ℕ) → (IsTyped c Δ.replications a → are_named ds (has_site game) position.Anywhere a ≡ true → Fine Δ → AllFine (sites_in y position.Anywhere Δ p a)) → IsTyped c Γ.replications a → are_named ds (has_site game) position.Anywhere a ≡ true → Fine Δ → AllFine (sites_in y position.Anywhere Δ p a)
-        body Δ e p k h v f = k (subst (λ rs. IsTyped c rs a) (sym e) h) v f
-    fine_sites Then Γ p t q h v f = absurd (both_ways false refl q)
-    fine_sites Else Γ p (Node Cons a b) q h v f =
-        let r = and_parts (is_phrase Body a) (is_phrase Nil b) q in
-        let z = and_parts (are_named ds (has_site game) position.Anywhere a) _ v in
-        flat_node position.ElseBody Γ p Cons a b refl (body (with_failed Γ Γ.tested) (failed_same Γ Γ.tested) (first_place p Cons) (fine_sites Body (with_failed Γ Γ.tested) (first_place p Cons) a r.0) h.0 z.0 (failed Γ Γ.tested f.tested f)) (flat_fine Nil _ _ _ b tt r.1)
-      where
-        failed_same : (Γ : Context) (t : Tree) → (with_failed Γ t).replications ≡ Γ.replications
-        failed_same Γ Empty = refl
-        failed_same Γ (Node k c d) = refl
+      body : (Δ : Context) → Δ.replications ≡ Γ.replications → (IsTyped c Δ.replications a → are_named ds (has_site game) position.Anywhere a ≡ true → Fine Δ → AllStand position.Anywhere Δ a) → IsTyped c Γ.replications a → are_named ds (has_site game) position.Anywhere a ≡ true → Fine Δ → AllStand position.Anywhere Δ a
+      body Δ e k h v f = k (subst (λ rs. IsTyped c rs a) (sym e) h) v f
+  stands_fine Then Γ t q h v f = absurd (both_ways false refl q)
+  stands_fine Else Γ (Node Cons a b) q h v f =
+      let r = and_parts (is_phrase Body a) (is_phrase Nil b) q in
+      let z = and_parts (are_named ds (has_site game) position.Anywhere a) _ v in
+      stand_node position.ElseBody Γ Cons a b f (body (with_failed Γ Γ.tested) (failed_same Γ Γ.tested) (stands_fine Body (with_failed Γ Γ.tested) a r.0) h.0 z.0 (failed Γ Γ.tested f.tested f)) (nil_stands _ _ b r.1)
+    where
+      failed_same : (Γ : Context) (t : Tree) → (with_failed Γ t).replications ≡ Γ.replications
+      failed_same Γ Empty = refl
+      failed_same Γ (Node k c d) = refl
 
-        body : (Δ : Context) → Δ.replications ≡ Γ.replications → (p : ℕ) → (IsTyped c Δ.replications a → are_named ds (has_site game) position.Anywhere a ≡ true → Fine Δ → AllFine (sites_in y position.Anywhere Δ p a)) → IsTyped c Γ.replications a → are_named ds (has_site game) position.Anywhere a ≡ true → Fine Δ → AllFine (sites_in y position.Anywhere Δ p a)
-        body Δ e p k h v f = k (subst (λ rs. IsTyped c rs a) (sym e) h) v f
-    fine_sites Else Γ p t q h v f = absurd (both_ways false refl q)
-    fine_sites Branches Γ p Empty q h v f = tt
-    fine_sites Branches Γ p (Node Cons (Node Branch us rest) b) q h v f =
-        let r = and_parts (is_phrase Arm (Node Branch us rest)) (is_phrase Branches b) q in
-        let z = and_parts (are_named ds (has_site game) position.Anywhere (Node Branch us rest)) _ v in
-        flat_node position.Branches Γ p Cons (Node Branch us rest) b refl (fine_sites Arm Γ (first_place p Cons) (Node Branch us rest) r.0 (tt, h.1.0) z.0 f) (fine_sites Branches Γ (second_place p Cons (Node Branch us rest)) b r.1 (h.0, h.1.1) z.1 f)
-    fine_sites Branches Γ p t q h v f = absurd (both_ways false refl q)
-    fine_sites Arm Γ p (Node Branch us (Node Cons cells (Node Cons test body))) q h v f =
-        let r = and_parts (is_phrase Binders us) _ q in
-        let o = and_parts (is_phrase Cells cells) _ r.1 in
-        let l = and_parts (is_phrase Term test) (is_phrase Body body) o.1 in
-        let z = and_parts (are_named ds (has_site game) position.Anywhere us) _ v in
-        let w = and_parts (are_variable_cells (has_site game) cells) _ z.1 in
-        let x = and_parts (are_named ds (has_site game) position.Cells cells) _ w.1 in
-        let k = and_parts (are_named ds (has_site game) position.Anywhere test) _ x.1 in
-        let list = listed (bound_fine Γ.replications meaning.BelowParameter us h.1.0) in
-        let guard = with_more (in_list Γ us) (items cells) (cells_fine ds game Γ.replications cells h.1.1.0 o.0 h.1.1.1 w.0) list in
-        let last = held (record (in_condition Γ us cells) { cells = (in_condition Γ us cells).cells ++ cells_of Γ.replications us; own = [] }) test (inr (sorted_fine ds game Γ.replications test meaning.boolean l.0 h.1.2)) (own_over (in_condition Γ us cells) guard) in
-        node_fine position.Anywhere Γ p Branch us (Node Cons cells (Node Cons test body)) last (flat_fine Binders _ _ _ us tt r.0)
-        (flat_node position.Guards (in_list Γ us) (second_place p Branch us) Cons cells (Node Cons test body) refl (flat_fine Cells _ _ _ cells tt o.0)
-        (flat_node position.Guarded (in_condition Γ us cells) (second_place (second_place p Branch us) Cons cells) Cons test body refl (flat_fine Term _ _ _ test tt l.0)
-        (in_body_law (in_body Γ us cells test) (held_same (record (in_condition Γ us cells) { cells = (in_condition Γ us cells).cells ++ cells_of Γ.replications us; own = [] }) test) (second_place (second_place (second_place p Branch us) Cons cells) Cons test)
-        (fine_sites Body (in_body Γ us cells test) (second_place (second_place (second_place p Branch us) Cons cells) Cons test) body l.1) h.1.3.1.1 k.1 last)))
-      where
-        listed : AllByRecursion (IsFineCell ds game Γ.replications) (cells_of Γ.replications us) → Fine (in_list Γ us)
-        listed o = record { facts = f.facts; cells = f.cells; own = o; tested = f.tested }
+      body : (Δ : Context) → Δ.replications ≡ Γ.replications → (IsTyped c Δ.replications a → are_named ds (has_site game) position.Anywhere a ≡ true → Fine Δ → AllStand position.Anywhere Δ a) → IsTyped c Γ.replications a → are_named ds (has_site game) position.Anywhere a ≡ true → Fine Δ → AllStand position.Anywhere Δ a
+      body Δ e k h v f = k (subst (λ rs. IsTyped c rs a) (sym e) h) v f
+  stands_fine Else Γ t q h v f = absurd (both_ways false refl q)
+  stands_fine Branches Γ Empty q h v f = nothing_stands position.Branches Γ
+  stands_fine Branches Γ (Node Cons (Node Branch us rest) b) q h v f =
+      let r = and_parts (is_phrase Arm (Node Branch us rest)) (is_phrase Branches b) q in
+      let z = and_parts (are_named ds (has_site game) position.Anywhere (Node Branch us rest)) _ v in
+      stand_node position.Branches Γ Cons (Node Branch us rest) b f (stands_fine Arm Γ (Node Branch us rest) r.0 (tt, h.1.0) z.0 f) (stands_fine Branches Γ b r.1 (h.0, h.1.1) z.1 f)
+  stands_fine Branches Γ t q h v f = absurd (both_ways false refl q)
+  stands_fine Arm Γ (Node Branch us (Node Cons cells (Node Cons test body))) q h v f =
+      let r = and_parts (is_phrase Binders us) _ q in
+      let o = and_parts (is_phrase Cells cells) _ r.1 in
+      let l = and_parts (is_phrase Term test) (is_phrase Body body) o.1 in
+      let z = and_parts (are_named ds (has_site game) position.Anywhere us) _ v in
+      let w = and_parts (are_variable_cells (has_site game) cells) _ z.1 in
+      let x = and_parts (are_named ds (has_site game) position.Cells cells) _ w.1 in
+      let k = and_parts (are_named ds (has_site game) position.Anywhere test) _ x.1 in
+      let list = listed (bound_fine Γ.replications meaning.BelowParameter us h.1.0) in
+      let guard = with_more (in_list Γ us) (items cells) (cells_fine ds game Γ.replications cells h.1.1.0 o.0 h.1.1.1 w.0) list in
+      let last = held (record (in_condition Γ us cells) { cells = (in_condition Γ us cells).cells ++ cells_of Γ.replications us; own = [] }) test (inr (sorted_fine ds game Γ.replications test meaning.boolean l.0 h.1.2)) (own_over (in_condition Γ us cells) guard) in
+      stand_node position.Anywhere Γ Branch us (Node Cons cells (Node Cons test body)) f (flat_stands Binders _ _ us tt tt r.0 f)
+      (stand_node position.Guards (in_list Γ us) Cons cells (Node Cons test body) list (flat_stands Cells _ _ cells tt tt o.0 list)
+      (stand_node position.Guarded (in_condition Γ us cells) Cons test body guard (flat_stands Term _ _ test tt tt l.0 guard)
+      (in_body_law (in_body Γ us cells test) (held_same (record (in_condition Γ us cells) { cells = (in_condition Γ us cells).cells ++ cells_of Γ.replications us; own = [] }) test)
+      (stands_fine Body (in_body Γ us cells test) body l.1) h.1.3.1.1 k.1 last)))
+    where
+      listed : AllByRecursion (IsFineCell ds game Γ.replications) (cells_of Γ.replications us) → Fine (in_list Γ us)
+      listed o = record { facts = f.facts; cells = f.cells; own = o; tested = f.tested }
 
-        held_same : (Δ : Context) (t : Tree) → (with_held Δ t).replications ≡ Δ.replications
-        held_same Δ Empty = refl
-        held_same Δ (Node k c d) = refl
+      held_same : (Δ : Context) (t : Tree) → (with_held Δ t).replications ≡ Δ.replications
+      held_same Δ Empty = refl
+      held_same Δ (Node k c d) = refl
 
-        in_body_law : (Δ : Context) → Δ.replications ≡ Γ.replications → (p : ℕ) → (IsTyped c Δ.replications body → are_named ds (has_site game) position.Anywhere body ≡ true → Fine Δ → AllFine (sites_in y position.Anywhere Δ p body)) → IsTyped c Γ.replications body → are_named ds (has_site game) position.Anywhere body ≡ true → Fine Δ
-            → AllFine (sites_in y position.Anywhere Δ p body)
-        in_body_law Δ e p k h v f = k (subst (λ rs. IsTyped c rs body) (sym e) h) v f
-    fine_sites Arm Γ p (Node Branch us (Node Cons cells Empty)) q h v f = absurd (both_ways false refl (and_parts (is_phrase Cells cells) false (and_parts (is_phrase Binders us) _ q).1).1)
-    fine_sites Arm Γ p (Node Branch us (Node Cons cells (Node k x z))) q h v f = absurd (both_ways false refl (and_parts (is_phrase Cells cells) false (and_parts (is_phrase Binders us) _ q).1).1)
-    fine_sites Arm Γ p (Node Branch us Empty) q h v f = absurd (both_ways false refl (and_parts (is_phrase Binders us) false q).1)
-    fine_sites Arm Γ p (Node Branch us (Node k x z)) q h v f = absurd (both_ways false refl (and_parts (is_phrase Binders us) false q).1)
-    fine_sites Arm Γ p t q h v f = absurd (both_ways false refl q)
-    fine_sites σ Γ p t q h v f = absurd h
+      in_body_law : (Δ : Context) → Δ.replications ≡ Γ.replications → (IsTyped c Δ.replications body → are_named ds (has_site game) position.Anywhere body ≡ true → Fine Δ → AllStand position.Anywhere Δ body) → IsTyped c Γ.replications body → are_named ds (has_site game) position.Anywhere body ≡ true → Fine Δ
+          → AllStand position.Anywhere Δ body
+      in_body_law Δ e k h v f = k (subst (λ rs. IsTyped c rs body) (sym e) h) v f
+  stands_fine Arm Γ (Node Branch us (Node Cons cells Empty)) q h v f = absurd (both_ways false refl (and_parts (is_phrase Cells cells) false (and_parts (is_phrase Binders us) _ q).1).1)
+  stands_fine Arm Γ (Node Branch us (Node Cons cells (Node k x z))) q h v f = absurd (both_ways false refl (and_parts (is_phrase Cells cells) false (and_parts (is_phrase Binders us) _ q).1).1)
+  stands_fine Arm Γ (Node Branch us Empty) q h v f = absurd (both_ways false refl (and_parts (is_phrase Binders us) false q).1)
+  stands_fine Arm Γ (Node Branch us (Node k x z)) q h v f = absurd (both_ways false refl (and_parts (is_phrase Binders us) false q).1)
+  stands_fine Arm Γ t q h v f = absurd (both_ways false refl q)
+  stands_fine σ Γ t q h v f = absurd h
 
-  pub sites_fine : (y : ℕ) → is_phrase Inputs game ≡ true → IsTyped c [] game → are_named ds (has_site game) position.Anywhere game ≡ true → AllByRecursion (λ (s : ℕ × Context). Fine s.1) (sites_of game y)
-  sites_fine y q h v = fine_sites y Inputs nothing_known 0 game q h v (record { facts = tt; cells = tt; own = tt; tested = inl refl })
+  pub places_fine : is_phrase Inputs game ≡ true → IsTyped c [] game → are_named ds (has_site game) position.Anywhere game ≡ true → (p : ℕ) (Γ : Context) → stands_at game p ≡ Some Γ → Fine Γ
+  places_fine q h v = stands_fine Inputs nothing_known game q h v (record { facts = tt; cells = tt; own = tt; tested = inl refl })

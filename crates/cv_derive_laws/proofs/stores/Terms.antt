@@ -22,7 +22,7 @@ use Rattle.cv_typing_runs.specs.Games.{HasArguments, context_of, sort_of_meaning
 use Rattle.cv_typing_runs.proofs.Known.{AreKnown, IsKnown}
 use Rattle.cv_typing_runs.proofs.Terms.{sorted}
 use Rattle.cv_scene.specs.Scenes.{Scene}
-use Rattle.cv_scene.specs.Terms.{Names, above_at, has_site, head_is_there, indices_above, is_there, is_term_at, names_at, replications_at, signature_in}
+use Rattle.cv_scene.specs.Terms.{Names, above_under, has_site, head_is_there, indices_above, is_there, is_term_under, names_under, signature_in}
 use Rattle.cv_lists.proofs.Options.{none_from_not_some}
 use Rattle.cv_lists.proofs.Tests.{or_cases}
 
@@ -94,19 +94,19 @@ module _ (ds : List Declaration) (variable : ℕ → Bool) (rs : Scope) where
   there_known true (Node No a b) e = let q = and_parts (is_there known Nil a) (is_there known Nil b) e in (tt, nil_known a q.0, nil_known b q.1)
   there_known true (Node h a b) e = absurd (both_ways false refl (and_parts (head_is_there known Term h) false e).1)
 
-pub term_typed : (s : Scene) (p : ℕ) (t : Tree) → is_term_at s p t ≡ true → typing.IsTyped (signature_in s) (above_at s p) AnyTerm t
-term_typed s p t e =
+pub term_typed : (s : Scene) (rs : List (ℕ × ℕ)) (t : Tree) → is_term_under s rs t ≡ true → typing.IsTyped (signature_in s) (above_under rs) AnyTerm t
+term_typed s rs t e =
     let q = and_parts (is_phrase Term t) _ e in
-    let r = and_parts (is_there (names_at s p) Term t) _ q.1 in
-    typed_where_none (signature_in s) (above_at s p) AnyTerm 0 t (none_from_not_some (typing.first_fault (signature_in s) (above_at s p) AnyTerm 0 t) r.1)
+    let r = and_parts (is_there (names_under s rs) Term t) _ q.1 in
+    typed_where_none (signature_in s) (above_under rs) AnyTerm 0 t (none_from_not_some (typing.first_fault (signature_in s) (above_under rs) AnyTerm 0 t) r.1)
 
-pub term_known : (s : Scene) (p : ℕ) (t : Tree) → is_term_at s p t ≡ true → AreKnown s.declarations (has_site s.game) (replications_at s p) t
-term_known s p t e =
+pub term_known : (s : Scene) (rs : List (ℕ × ℕ)) (t : Tree) → is_term_under s rs t ≡ true → AreKnown s.declarations (has_site s.game) rs t
+term_known s rs t e =
     let q = and_parts (is_phrase Term t) _ e in
-    there_known s.declarations (has_site s.game) (replications_at s p) true t (and_parts (is_there (names_at s p) Term t) _ q.1).0
+    there_known s.declarations (has_site s.game) rs true t (and_parts (is_there (names_under s rs) Term t) _ q.1).0
 
 -- the term has the sort that is computed for it
-pub term_sorted : (s : Scene) (p : ℕ) (t : Tree) → HasArguments s.declarations → IsWellFormed s.declarations s.game → is_term_at s p t ≡ true
-    → (S : Sort) × (sort_of (signature_in s) (above_at s p) t ≡ Some S) × HasSort (context_of s.declarations s.game) (replications_at s p) t (sort_of_meaning S)
-term_sorted s p t g w e =
-    sorted s.declarations s.game g w.constants (above_at s p) (replications_at s p) (above_matches (replications_at s p)) true AnyTerm t (and_parts (is_phrase Term t) _ e).0 (term_typed s p t e) (term_known s p t e)
+pub term_sorted : (s : Scene) (rs : List (ℕ × ℕ)) (t : Tree) → HasArguments s.declarations → IsWellFormed s.declarations s.game → is_term_under s rs t ≡ true
+    → (S : Sort) × (sort_of (signature_in s) (above_under rs) t ≡ Some S) × HasSort (context_of s.declarations s.game) rs t (sort_of_meaning S)
+term_sorted s rs t g w e =
+    sorted s.declarations s.game g w.constants (above_under rs) rs (above_matches rs) true AnyTerm t (and_parts (is_phrase Term t) _ e).0 (term_typed s rs t e) (term_known s rs t e)

@@ -11,7 +11,6 @@ use Rattle.cv_scope_rules.specs.Context.{items}
 use Rattle.cv_scope_rules.specs.Rules.{is_index}
 use Rattle.cv_scene.specs.Reasons.{are_congruent_by, arguments, is_congruent}
 use Rattle.cv_scene.specs.Sights.{Sight}
-use Rattle.cv_scene.specs.Terms.{replications_at}
 use Rattle.cv_derive_rules.specs.Inferences.{Visible}
 use Rattle.cv_derive_reasons.specs.inferences.Sides.{sides_of}
 use Rattle.cv_derive_reasons.proofs.inferences.Forms.{tested}
@@ -39,8 +38,8 @@ module _ (s : Sight) (v : Visible) (ls : Tree) where
     abbrev equal : Bool
     equal = are_congruent_by v (items ls) (arguments s h a b) (arguments s h c d)
 
-    pub of_index : (x : ℕ) (r : Bool) → h ≡ Leaf x → r ≡ is_index (replications_at s.scene s.place) x → r ≡ true → false ≡ equal
+    pub of_index : (x : ℕ) (r : Bool) → h ≡ Leaf x → r ≡ is_index s.replications x → r ≡ true → false ≡ equal
     of_index x r e f g = sym (ap (λ k. are_congruent_by v (items ls) (arguments s k a b) (arguments s k c d)) e ∙ ap (λ q. are_congruent_by v (items ls) (if q then None else Some []) (if q then None else Some [])) (sym f ∙ g))
 
-    pub of_variable : (x : ℕ) (r q : Bool) → h ≡ Leaf x → r ≡ is_index (replications_at s.scene s.place) x → r ≡ false → q ≡ is_empty ls → q ≡ equal
+    pub of_variable : (x : ℕ) (r q : Bool) → h ≡ Leaf x → r ≡ is_index s.replications x → r ≡ false → q ≡ is_empty ls → q ≡ equal
     of_variable x r q e f g i = i ∙ sym (ap (λ k. are_congruent_by v (items ls) (arguments s k a b) (arguments s k c d)) e ∙ (ap (λ q. are_congruent_by v (items ls) (if q then None else Some []) (if q then None else Some [])) (sym f ∙ g) ∙ no_more v ls))

@@ -16,18 +16,18 @@ use Rattle.cv_typing.specs.Tables.{Map, above_of}
 use Rattle.cv_scope_rules.specs.typing.Wants.{bound}
 use Rattle.cv_scope_rules.specs.Rules.{is_index}
 use Rattle.cv_scene.specs.Sights.{Sight}
-use Rattle.cv_scene.specs.Terms.{indices_above, is_function, names_at, replications_at}
+use Rattle.cv_scene.specs.Terms.{indices_above, is_function, names_under}
 use Rattle.cv_derive_lines.specs.terms.Typed.{IsSightOf, names_of}
 use Rattle.cv_scene_view.proofs.Above.{index_above}
 use Rattle.cv_lists.proofs.Options.{is_some_map}
 
 -- an index of a place is one above it
-pub index_at : (above : Map Sort) (s : Sight) → above_of above ≡ indices_above nothing_above (replications_at s.scene s.place) → (x : ℕ) → is_some (above_of above x) ≡ is_index (replications_at s.scene s.place) x
-index_at above s e x = ap (λ (f : Above). is_some (f x)) e ∙ index_above nothing_above (replications_at s.scene s.place) x
+pub index_at : (above : Map Sort) (s : Sight) → above_of above ≡ indices_above nothing_above s.replications → (x : ℕ) → is_some (above_of above x) ≡ is_index s.replications x
+index_at above s e x = ap (λ (f : Above). is_some (f x)) e ∙ index_above nothing_above s.replications x
 
 -- the names of a sight are those that the code has
-pub names_at_law : (trees : List KindTree) (ds : List Decl) (variables : Arrays) (indices : Map Sort) (s : Sight) → IsSightOf trees ds variables indices s → names_of (declarations trees ds) variables indices ≡ names_at s.scene s.place
-names_at_law trees ds variables indices s e = λ i. record {
+pub names_same : (trees : List KindTree) (ds : List Decl) (variables : Arrays) (indices : Map Sort) (s : Sight) → IsSightOf trees ds variables indices s → names_of (declarations trees ds) variables indices ≡ names_under s.scene s.replications
+names_same trees ds variables indices s e = λ i. record {
   function = is_function (sym e.declared i);
   variable = λ x. is_some (variable_in (e.sites i) x);
   index = fun_ext (index_at indices s e.bound) i;

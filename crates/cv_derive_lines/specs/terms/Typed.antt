@@ -15,13 +15,13 @@ use Rattle.cv_typing.specs.Tables.{Map, above_of, arrays_of}
 use Rattle.cv_scope_rules.specs.typing.Typing.{fault_of}
 use Rattle.cv_scope_rules.specs.typing.Wants.{Want, wants}
 use Rattle.cv_scene.specs.Sights.{Sight}
-use Rattle.cv_scene.specs.Terms.{Names, above_at, is_function}
+use Rattle.cv_scene.specs.Terms.{Names, above_under, is_function}
 
 -- the sight of which the code has the declarations, the variables of the game and the sorts of the indices above
 pub record IsSightOf (trees : List KindTree) (ds : List Decl) (variables : Arrays) (indices : Map Sort) (s : Sight) : Type 0 where
   pub declared : s.scene.declarations ≡ declarations trees ds
   pub sites : arrays_of variables ≡ OfGame (sites_of s.scene.game)
-  pub bound : above_of indices ≡ above_at s.scene s.place
+  pub bound : above_of indices ≡ above_under s.replications
 
 -- the names that a term may read there
 abbrev pub names_of : List Declaration → Arrays → Map Sort → Names

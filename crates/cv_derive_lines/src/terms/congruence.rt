@@ -8,7 +8,7 @@ ghost use Rattle.cv_derive_rules.specs.Inferences as inferences;
 ghost use Rattle.cv_derive_lines.specs.citing.Bookmarks.{CanCite, visible_to};
 ghost use Rattle.cv_scene.specs.Reasons as reasons;
 ghost use Rattle.cv_scene.specs.Sights.{Sight};
-ghost use Rattle.cv_scene.specs.Terms.{above_at};
+ghost use Rattle.cv_scene.specs.Terms.{above_under};
 
 use crate::citing::Citing;
 use crate::terms::arguments::{are_equal_by, is_equal_by, is_only_equal_by};
@@ -63,7 +63,7 @@ fn are_arguments_equal_by(
     requires second_left { ChildBelow (length pool.now.trees) left.second }
     requires first_right { ChildBelow (length pool.now.trees) right.first }
     requires second_right { ChildBelow (length pool.now.trees) right.second }
-    ensures { (s : Sight) → above_of above.now ≡ above_at s.scene s.place
+    ensures { (s : Sight) → above_of above.now ≡ above_under s.replications
         → result ≡ reasons.are_congruent_by
         (visible_to pool.now.trees citing.now)
         (items (tree_at pool.now.trees cited_claims))
@@ -108,7 +108,7 @@ pub fn is_congruent(
     requires citing { CanCite pool.now.trees citing.now }
     requires cited_claims { ChildBelow (length pool.now.trees) cited_claims }
     requires term { ChildBelow (length pool.now.trees) term }
-    ensures { (s : Sight) → above_of above.now ≡ above_at s.scene s.place
+    ensures { (s : Sight) → above_of above.now ≡ above_under s.replications
         → result ≡ reasons.is_congruent s
         (visible_to pool.now.trees citing.now)
         (tree_at pool.now.trees cited_claims) (tree_at pool.now.trees term) }

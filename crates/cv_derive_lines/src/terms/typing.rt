@@ -137,7 +137,7 @@ pub fn is_term(
     requires term { ChildBelow (length work.now.pool.trees) term }
     ensures { (s : Sight)
         → IsSightOf work.now.pool.trees work.now.decls.list arrays.now above.now s
-        → result ≡ terms.is_term_at s.scene s.place (tree_at work.now.pool.trees term) }
+        → result ≡ terms.is_term_under s.scene s.replications (tree_at work.now.pool.trees term) }
 {
     if !is_phrase(&work.pool, Phrase::Term, term) {
         return false;
@@ -166,7 +166,7 @@ fn is_cell(work: &Work, arrays: &Arrays, above: &HashMap<u32, Sort>, cell: Optio
     requires cell { ChildBelow (length work.now.pool.trees) cell }
     ensures { (s : Sight)
         → IsSightOf work.now.pool.trees work.now.decls.list arrays.now above.now s
-        → result ≡ sights.is_cell_at s.scene s.place (tree_at work.now.pool.trees cell) }
+        → result ≡ sights.is_cell_under s.scene s.replications (tree_at work.now.pool.trees cell) }
 {
     if !is_phrase(&work.pool, Phrase::OneCell, cell) {
         return false;

@@ -161,7 +161,7 @@ module _ (s : Scene) (i : Interpretation) (ready : IsReady s.declarations s.game
     witness_sorted : (T : ℕ) (w : Tree) → is_term_of (sight_at s p) (OfType T) w ≡ true → value g at m w < i.type_size T
     witness_sorted T w e =
         let z = and_parts (is_term_at s p w) _ e in
-        let r = term_sorted s p w ready.arguments ready.formed z.0 in
+        let r = term_sorted s (replications_at s p) w ready.arguments ready.formed z.0 in
         let same : r.0 ≡ OfType T = go (sort_of (signature_in s) (above_at s p) w) r.0 r.1 z.1 in
         typed_value (context_of s.declarations s.game) i no_side (is_model s.declarations s.game i model ready.sorts) (replications_at s p) at m
         (subst (λ o. meaning.AreIndicesOf i (replications_by o) at) (sym there.known) (same_indices s.declarations i at there.above.replications there.matches.named)) there.types w (meaning.OfType T)

@@ -4,10 +4,11 @@ use Rattle.std.specs.Prelude.{ℕ, true, false, nat_lt, List, [], ◌∷◌, map
 use Rattle.cv_syntax_trees.specs.declared.class.Class.TheVariants as class
 use Rattle.cv_syntax_trees.specs.declared.head.Head.{Head}
 use Rattle.cv_syntax_trees.specs.declared.head.Head.TheVariants as head
-use Rattle.cv_syntax_trees.specs.declared.head.Head.TheVariants.{And, Apply, ByAgain, ByAnd, ByBool, ByCong, ByContra, ByData, ByEquation, ByExfalso, ByFact, ByGiven, ByHere, ByLeft, ByMp, ByOf, ByOtherHere, ByRefl, ByRight, BySite, BySym, ByTrans, Cons, Eq, Forall, Not, Number, Stop, Yield}
+use Rattle.cv_syntax_trees.specs.declared.head.Head.TheVariants.{And, Apply, ByAgain, ByAnd, ByBool, ByCong, ByContra, ByData, ByDistinct, ByEquation, ByExfalso, ByFact, ByGiven, ByHere, ByLeft, ByMp, ByOf, ByOtherFact, ByOtherHere, ByRefl, ByRight, BySame, BySite, BySym, ByTrans, Cons, Eq, Forall, Not, Number, Stop, Yield}
 use Rattle.cv_syntax_trees.specs.Builders.{branch, find, input, leaf, output, read}
 use Rattle.cv_syntax_trees.specs.Declarations.{Declaration, Named, Equation}
 use Rattle.cv_syntax_trees.specs.Tree.{Tree, Empty, Node, binders, chain, lone, names}
+use Rattle.cv_scene.specs.Pairs.{pair_at}
 use Rattle.cv_scene.specs.Scenes.{Scene}
 use Rattle.cv_scene.specs.Sights.{Sight, sight_at}
 use Rattle.cv_derive_rules.specs.Truths.{no, yes}
@@ -69,9 +70,12 @@ game =
     Node (head.Repl 8 7) Empty (input 3 (8 ∷ []) ((4, 5) ∷ [])
     (Node (head.Let 6 5) a (find 1 (branch ((9, 7) ∷ []) (xu ∷ []) (eq xu a) (output 3 (8 ∷ []) [] (lone Stop)) ∷ []) (lone Yield))))
 
+abbrev pub scene : Scene
+scene = record { declarations = declarations; known = λ y. nat_lt y 100; game = game }
+
 -- at the output
 abbrev pub sight : Sight
-sight = sight_at (record { declarations = declarations; known = λ y. nat_lt y 100; game = game }) 16
+sight = sight_at scene 16
 
 abbrev pub number : ℕ → Tree
 number n = lone (Number n)
@@ -172,6 +176,48 @@ cases =
     ∷ (line (eq x a) (one ByAgain 1) ∷ [], Some 1)
     ∷ []
 
+-- two copies of the output, where 4 has one value in both, and the values of 4 are taken to differ
+
+abbrev pub a_there : Tree
+a_there = read 4 (leaf 108 ∷ [])
+
+abbrev pub x_there : Tree
+x_there = read 6 (leaf 108 ∷ [])
+
+abbrev pub pair_sight : Sight
+pair_sight = pair_at scene 16 16 100 (eq a a_there ∷ []) (4 ∷ [])
+
+abbrev pub distinct : (l d e k : ℕ) → Tree
+distinct l d e k = Node ByDistinct (number l) (Node head.Cons (number d) (Node head.Cons (number e) (number k)))
+
+-- two cells with one value, both defined, and an equation of their indices
+abbrev pub two_cells : (m n index other reason : Tree) → List Tree
+two_cells m n index other reason =
+    line (eq a a_there) (one BySame 1)
+    ∷ is_there m (lone ByHere)
+    ∷ is_there n (lone ByOtherHere)
+    ∷ line (eq index other) reason
+    ∷ []
+
+abbrev pub pair_cases : List (List Tree × Option ℕ)
+pair_cases =
+    -- facts and cells of either copy
+    (line (eq x a) (one ByFact 1) ∷ line (eq x_there a_there) (one ByOtherFact 1) ∷ [], None)
+    ∷ (line (eq x_there a_there) (one ByFact 1) ∷ [], Some 1)
+    ∷ (line (eq x a) (one ByOtherFact 1) ∷ [], Some 1)
+    ∷ (is_there x (lone ByHere) ∷ is_there x_there (lone ByOtherHere) ∷ [], None)
+    ∷ (is_there x (lone ByOtherHere) ∷ [], Some 1)
+    -- what is given
+    ∷ (line (eq a a_there) (one BySame 1) ∷ [], None)
+    ∷ (line (eq a_there a) (one BySame 1) ∷ [], Some 1)
+    ∷ (line (eq a a_there) (one BySame 2) ∷ [], Some 1)
+    -- values that differ: of an index that there is; the cells in their order; of an array that is named
+    ∷ (two_cells a a_there (leaf 8) (leaf 108) (distinct 1 2 3 1), None)
+    ∷ (two_cells a a_there (leaf 8) (leaf 108) (distinct 1 2 3 2), Some 4)
+    ∷ (two_cells a a_there (leaf 8) (leaf 108) (distinct 1 3 2 1), Some 4)
+    ∷ (two_cells x x_there (leaf 8) (leaf 108) (distinct 1 2 3 1), Some 4)
+    ∷ []
+
 -- !8 <= 7 in(3[8], (4: 5)); find suchthat defined(6[8]) then yield else new 6: 5; yield
 abbrev pub late_sight : ℕ → Sight
 late_sight q = sight_at (record {
@@ -192,6 +238,10 @@ late_cases =
     ∷ (7, is_there x (lone ByHere) ∷ line no (late 1 (1 ∷ [])) ∷ [], Some 2)
     ∷ (7, is_there x (lone ByHere) ∷ line yes (late 1 []) ∷ [], Some 2)
     ∷ []
+
+-- two copies are reached at two moments
+abbrev pub late_pair : Sight
+late_pair = pair_at (late_sight 7).scene 7 7 100 [] []
 
 -- what the last lines say
 abbrev pub two_lines : Tree

@@ -2,7 +2,7 @@
 use Rattle.std.proofs.Common.{◌≡◌, true, false, [], ◌∷◌, Some, None, refl}
 use Rattle.std.specs.List.{AllByRecursion}
 use Rattle.cv_syntax.specs.faults.Walk.{first_fault}
-use Rattle.cv_syntax_trees.specs.declared.head.Head.TheVariants.{ByAgain, ByAnd, ByBool, ByCong, ByContra, ByData, ByEquation, ByFact, ByGiven, ByHere, ByMp, ByOf, ByOtherHere, ByRefl, BySite, BySym, ByTrans}
+use Rattle.cv_syntax_trees.specs.declared.head.Head.TheVariants.{ByAgain, ByAnd, ByBool, ByCong, ByContra, ByData, ByEquation, ByFact, ByGiven, ByHere, ByMp, ByOf, ByOtherFact, ByOtherHere, ByRefl, BySame, BySite, BySym, ByTrans}
 use Rattle.cv_syntax_trees.specs.Builders.{leaf}
 use Rattle.cv_syntax_trees.specs.Tree.{Empty, Node, chain, lone, size, subtree, same_tree}
 use Rattle.cv_directory_sorts.specs.Sites.{bound_sort, first_index, first_site}
@@ -22,8 +22,8 @@ use Rattle.cv_derive_rules.specs.Given.{with_given}
 use Rattle.cv_derive_rules.specs.Lines.{lines_of, statements}
 use Rattle.cv_derive_rules.specs.Lines as lines
 use Rattle.cv_derive_rules.specs.Truths.{no, yes}
-use Rattle.cv_derive_laws.specs.worked.Worked.{a, and, au, cases, ends, eq, g, h, late, late_cases, late_sight, line, no_ends, not_p, number, one, p, refutes, sight, split, two, two_lines, u, x, xu}
-use Rattle.cv_derive_laws.specs.worked.Worked as worked
+use Rattle.cv_derive.specs.worked.Worked.{a, a_there, and, au, cases, distinct, ends, eq, g, h, late, late_cases, late_pair, late_sight, line, no_ends, not_p, number, one, p, pair_cases, pair_sight, refutes, sight, split, two, two_cells, two_lines, u, x, x_there, xu}
+use Rattle.cv_derive.specs.worked.Worked as worked
 
 case_0 : first_bad_line sight (chain (line (eq x a) (one ByFact 1) ∷ [])) ≡ None
 unfolding first_fault size subtree same_tree first_index first_site bound_sort binders_differ counting.count context_at is_bound is_phrase is_there standing_at names_in sites_in with_given lines_of lines.count statements first_bad
@@ -186,6 +186,61 @@ late_4 = refl
 
 pub each_late : AllByRecursion (λ c. first_bad_line (late_sight c.0) (chain c.1) ≡ c.2) late_cases
 each_late = (late_0, (late_1, (late_2, (late_3, (late_4, tt)))))
+
+pair_0 : first_bad_line pair_sight (chain (line (eq x a) (one ByFact 1) ∷ line (eq x_there a_there) (one ByOtherFact 1) ∷ [])) ≡ None
+unfolding first_fault size subtree same_tree first_index first_site bound_sort binders_differ counting.count context_at is_bound is_phrase is_there standing_at names_in sites_in with_given lines_of lines.count statements first_bad
+pair_0 = refl
+
+pair_1 : first_bad_line pair_sight (chain (line (eq x_there a_there) (one ByFact 1) ∷ [])) ≡ Some 1
+unfolding first_fault size subtree same_tree first_index first_site bound_sort binders_differ counting.count context_at is_bound is_phrase is_there standing_at names_in sites_in with_given lines_of lines.count statements first_bad
+pair_1 = refl
+
+pair_2 : first_bad_line pair_sight (chain (line (eq x a) (one ByOtherFact 1) ∷ [])) ≡ Some 1
+unfolding first_fault size subtree same_tree first_index first_site bound_sort binders_differ counting.count context_at is_bound is_phrase is_there standing_at names_in sites_in with_given lines_of lines.count statements first_bad
+pair_2 = refl
+
+pair_3 : first_bad_line pair_sight (chain (worked.is_there x (lone ByHere) ∷ worked.is_there x_there (lone ByOtherHere) ∷ [])) ≡ None
+unfolding first_fault size subtree same_tree first_index first_site bound_sort binders_differ counting.count context_at is_bound is_phrase is_there standing_at names_in sites_in with_given lines_of lines.count statements first_bad
+pair_3 = refl
+
+pair_4 : first_bad_line pair_sight (chain (worked.is_there x (lone ByOtherHere) ∷ [])) ≡ Some 1
+unfolding first_fault size subtree same_tree first_index first_site bound_sort binders_differ counting.count context_at is_bound is_phrase is_there standing_at names_in sites_in with_given lines_of lines.count statements first_bad
+pair_4 = refl
+
+pair_5 : first_bad_line pair_sight (chain (line (eq a a_there) (one BySame 1) ∷ [])) ≡ None
+unfolding first_fault size subtree same_tree first_index first_site bound_sort binders_differ counting.count context_at is_bound is_phrase is_there standing_at names_in sites_in with_given lines_of lines.count statements first_bad
+pair_5 = refl
+
+pair_6 : first_bad_line pair_sight (chain (line (eq a_there a) (one BySame 1) ∷ [])) ≡ Some 1
+unfolding first_fault size subtree same_tree first_index first_site bound_sort binders_differ counting.count context_at is_bound is_phrase is_there standing_at names_in sites_in with_given lines_of lines.count statements first_bad
+pair_6 = refl
+
+pair_7 : first_bad_line pair_sight (chain (line (eq a a_there) (one BySame 2) ∷ [])) ≡ Some 1
+unfolding first_fault size subtree same_tree first_index first_site bound_sort binders_differ counting.count context_at is_bound is_phrase is_there standing_at names_in sites_in with_given lines_of lines.count statements first_bad
+pair_7 = refl
+
+pair_8 : first_bad_line pair_sight (chain (two_cells a a_there (leaf 8) (leaf 108) (distinct 1 2 3 1))) ≡ None
+unfolding first_fault size subtree same_tree first_index first_site bound_sort binders_differ counting.count context_at is_bound is_phrase is_there standing_at names_in sites_in with_given lines_of lines.count statements first_bad
+pair_8 = refl
+
+pair_9 : first_bad_line pair_sight (chain (two_cells a a_there (leaf 8) (leaf 108) (distinct 1 2 3 2))) ≡ Some 4
+unfolding first_fault size subtree same_tree first_index first_site bound_sort binders_differ counting.count context_at is_bound is_phrase is_there standing_at names_in sites_in with_given lines_of lines.count statements first_bad
+pair_9 = refl
+
+pair_10 : first_bad_line pair_sight (chain (two_cells a a_there (leaf 8) (leaf 108) (distinct 1 3 2 1))) ≡ Some 4
+unfolding first_fault size subtree same_tree first_index first_site bound_sort binders_differ counting.count context_at is_bound is_phrase is_there standing_at names_in sites_in with_given lines_of lines.count statements first_bad
+pair_10 = refl
+
+pair_11 : first_bad_line pair_sight (chain (two_cells x x_there (leaf 8) (leaf 108) (distinct 1 2 3 1))) ≡ Some 4
+unfolding first_fault size subtree same_tree first_index first_site bound_sort binders_differ counting.count context_at is_bound is_phrase is_there standing_at names_in sites_in with_given lines_of lines.count statements first_bad
+pair_11 = refl
+
+pub each_pair : AllByRecursion (λ c. first_bad_line pair_sight (chain c.0) ≡ c.1) pair_cases
+each_pair = (pair_0, (pair_1, (pair_2, (pair_3, (pair_4, (pair_5, (pair_6, (pair_7, (pair_8, (pair_9, (pair_10, (pair_11, tt))))))))))))
+
+pub none_late : first_bad_line late_pair (chain (worked.is_there x (lone ByHere) ∷ line no (late 1 []) ∷ [])) ≡ Some 2
+unfolding first_fault size subtree same_tree first_index first_site bound_sort binders_differ counting.count context_at is_bound is_phrase is_there standing_at names_in sites_in with_given lines_of lines.count statements first_bad is_defined_in is_late
+none_late = refl
 
 pub end_with : AllByRecursion (λ t. ends_with two_lines (chain t) ≡ true) ends
 unfolding same_tree lines_of statements
