@@ -520,7 +520,7 @@ script_cause_of o r f block s t w = go w.left w.split w.ends
     by_command : (c : Command) → r.command ≡ c → (unclosed : Option ℕ) → first_open (closed_by w.took.proof) 1 qs ≡ unclosed → w.steps ≡ map (λ t. t.step) w.took.proof ++ [] → ComesFrom o r (ends_under c (ended_with unclosed))
     by_command command.Games g None q i = done g i
     by_command command.Games g (Some k) q i = done g i
-    by_command (command.Prove n) g u q i = closed u q i
+    by_command (command.Prove n more) g u q i = closed u q i
     by_command (command.Sample n p) g u q i = closed u q i
     by_command command.Nothing g u q i = closed u q i
 

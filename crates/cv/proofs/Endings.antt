@@ -377,13 +377,13 @@ pub untold_complete : (told : Option (List ℕ)) (P : List ℕ → Type 0) → t
 untold_complete told P e = subst (λ (t : Option (List ℕ)). IfSome t P) (sym e) tt
 
 pub text_untold : (told : Option Files) (asked : Asked) (n : ℕ) → text_asked asked ≡ Some n → bytes_asked told (Some asked) ≡ None
-text_untold told (Prove file moves) n e = absurd (cc)
+text_untold told (Prove file moves more) n e = absurd (cc)
 text_untold told (Games file) n e = absurd (cc)
 text_untold told (Sample m true) n e = absurd (cc)
 text_untold told (Sample m false) n e = refl
 
 pub text_no_games : (asked : Asked) (n : ℕ) → text_asked asked ≡ Some n → command_of (Some asked) ≡ command.Games → ⊥
-text_no_games (Prove file moves) n e g = absurd (cc)
+text_no_games (Prove file moves more) n e g = absurd (cc)
 text_no_games (Games file) n e g = absurd (cc)
 text_no_games (Sample m true) n e g = absurd (cc)
 text_no_games (Sample m false) n e g = (cc)

@@ -56,7 +56,7 @@ shown s = s
 
 -- how many moves a command allows
 abbrev pub moves_in : Command → ℕ
-moves_in (command.Prove moves) = moves
+moves_in (command.Prove moves more) = moves
 moves_in (command.Sample n prove) = 32
 moves_in command.Games = 0
 moves_in command.Nothing = 0

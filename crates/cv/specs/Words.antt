@@ -17,7 +17,7 @@ asked_by words = command_read (map string_bytes words)
 
 -- the file that a command names
 abbrev pub file_asked : Option Asked → Option Text
-file_asked (Some (Prove file moves)) = Some file
+file_asked (Some (Prove file moves more)) = Some file
 file_asked (Some (Games file)) = Some file
 file_asked (Some (Sample n prove)) = None
 file_asked None = None
@@ -29,7 +29,7 @@ text_asked asked = None
 
 -- the command of a report
 abbrev pub command_of : Option Asked → Command
-command_of (Some (Prove file moves)) = command.Prove moves
+command_of (Some (Prove file moves more)) = command.Prove moves more
 command_of (Some (Games file)) = command.Games
 command_of (Some (Sample n prove)) = command.Sample n prove
 command_of None = command.Nothing
@@ -40,7 +40,7 @@ bytes_under told name = option_map (λ files. bytes_of files name) told
 
 -- the bytes that a command reads, where they are told: those under the name of its file, or those of a sample of which a proof is asked
 abbrev pub bytes_asked : Option Files → Option Asked → Option (List ℕ)
-bytes_asked told (Some (Prove file moves)) = bytes_under told file
+bytes_asked told (Some (Prove file moves more)) = bytes_under told file
 bytes_asked told (Some (Games file)) = bytes_under told file
 bytes_asked told (Some (Sample n true)) = Some (file_of n)
 bytes_asked told (Some (Sample n false)) = None

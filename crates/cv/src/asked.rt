@@ -19,7 +19,11 @@ pub fn command_of(request: Request<'_>) -> Command
     ensures { result ≡ command_by (Some (asked_of request.entry)) }
 {
     match request {
-        Request::Prove { file: _, moves } => Command::Prove { moves },
+        Request::Prove {
+            file: _,
+            moves,
+            more,
+        } => Command::Prove { moves, more },
         Request::Games { file: _ } => Command::Games,
         Request::Sample { number, prove } => Command::Sample { number, prove },
     }
@@ -38,7 +42,11 @@ pub fn text_asked(request: Request<'_>) -> Option<u32>
             number: _,
             prove: true,
         } => None,
-        Request::Prove { file: _, moves: _ } => None,
+        Request::Prove {
+            file: _,
+            moves: _,
+            more: _,
+        } => None,
         Request::Games { file: _ } => None,
     }
 }
@@ -49,7 +57,7 @@ pub fn is_games(command: Command) -> bool
 {
     match command {
         Command::Games => true,
-        Command::Prove { moves: _ } => false,
+        Command::Prove { moves: _, more: _ } => false,
         Command::Sample {
             number: _,
             prove: _,
@@ -66,13 +74,26 @@ pub fn moves_of(command: Command) -> u32
     ensures { result ≡ moves_in command }
 {
     match command {
-        Command::Prove { moves } => moves,
+        Command::Prove { moves, more: _ } => moves,
         Command::Games => 0,
         Command::Sample {
             number: _,
             prove: _,
         } => MOVES,
         Command::Nothing => 0,
+    }
+}
+
+/// Whether a command asks for further moves.
+pub fn goes_further(command: Command) -> bool {
+    match command {
+        Command::Prove { moves: _, more } => more,
+        Command::Games => false,
+        Command::Sample {
+            number: _,
+            prove: _,
+        } => false,
+        Command::Nothing => false,
     }
 }
 
@@ -93,7 +114,7 @@ pub fn end_under(command: Command, status: Status) -> Status
 {
     match command {
         Command::Games => end_of_games(status),
-        Command::Prove { moves: _ } => status,
+        Command::Prove { moves: _, more: _ } => status,
         Command::Sample {
             number: _,
             prove: _,
@@ -137,7 +158,11 @@ pub fn source<F: Shelf>(
         (F.asked shelf.old) (F.asked shelf.new) }
 {
     match request {
-        Request::Prove { file, moves: _ } => shelf.fetch(alloc, file, MOST_BYTES),
+        Request::Prove {
+            file,
+            moves: _,
+            more: _,
+        } => shelf.fetch(alloc, file, MOST_BYTES),
         Request::Games { file } => shelf.fetch(alloc, file, MOST_BYTES),
         Request::Sample {
             number,

@@ -11,7 +11,7 @@ ghost use Rattle.cv_kernel_crypto.specs.Applied.{HasEquivalences};
 ghost use Rattle.cv.specs.Runs.{Runs};
 ghost use Rattle.cv.specs.Strategy.{is_games};
 
-use crate::asked::moves_of;
+use crate::asked::{goes_further, moves_of};
 use cv_follow::{Walk, search};
 use cv_report::outcome::refused;
 use cv_report::verdicts::steps_of;
@@ -33,7 +33,13 @@ pub fn run_strategy(alloc: Global, work: Work, command: Command, file: File) -> 
     ensures command { result.command ≡ command }
 {
     let mut work = work;
-    let Ok(walk) = search(alloc, &mut work, file.game, moves_of(command)) else {
+    let Ok(walk) = search(
+        alloc,
+        &mut work,
+        file.game,
+        moves_of(command),
+        goes_further(command),
+    ) else {
         return refused(alloc, work, command, Status::Memory);
     };
     let Ok(steps) = steps_of(alloc, &walk.trail) else {

@@ -1,9 +1,10 @@
 // Proposals of certificates: of correspondences without `inj`, by what is known at each place of the left event, and of
-// secrecy without pairs.
+// secrecy without pairs; and of the bodies of tests that go, by what is known there.
 #![tactic(auto)]
 
 mod certificates;
 mod proposing;
+mod pruning;
 mod queries;
 mod routes;
 mod searching;

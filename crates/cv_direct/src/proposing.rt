@@ -7,12 +7,13 @@ mod certificates;
 mod lines;
 mod shortage;
 
-use crate::proposing::certificates::plant_certificate;
+use crate::proposing::certificates::{plant_certificate, plant_lines};
 use crate::proposing::shortage::Shortage;
+use crate::pruning::{Unreached, first_unreached};
 use crate::searching::{Effort, direct};
 use cv_closure::Theory;
-use cv_grounds::{Survey, theory_of};
-use cv_step_writer::Proposal;
+use cv_grounds::{Side, Survey, theory_of};
+use cv_step_writer::{Body, Proposal};
 use cv_syntax::{Decls, Game, NodeId, Pool, PoolError};
 use std::alloc::{AllocError, Global};
 
@@ -25,6 +26,29 @@ pub struct Proposer {
     survey: Survey,
     theory: Theory,
     effort: Effort,
+}
+
+/// How a step names a body of a test.
+fn body_of(side: Side) -> Body {
+    match side {
+        Side::Then => Body::Then,
+        Side::Else => Body::Else,
+        Side::Branch(number) => Body::Branch(u64::from(number)),
+    }
+}
+
+/// The step that drops a body of a test.
+#[tactic(auto, using(crate::proofs::Below::planting))]
+fn plant_pruning(alloc: Global, pool: &mut Pool, found: &Unreached) -> Result<Proposal, Shortage>
+    ensures below { IfOk result (IsProposalBelow (length pool.new.trees)) }
+    ensures grows { Grows pool.old pool.new }
+{
+    let by = plant_lines(alloc, pool, &found.by)?;
+    Ok(Proposal::Prune {
+        place: u64::from(found.part.place),
+        body: body_of(found.part.side),
+        by,
+    })
 }
 
 impl Proposer {
@@ -87,6 +111,52 @@ impl Proposer {
         ensures grows { Grows pool.old pool.new }
     {
         match self.plant_proposal(alloc, pool, query, number) {
+            Ok(proposal) => Ok(proposal),
+            Err(Shortage(fault)) => Err(fault),
+        }
+    }
+
+    /// The step that drops the first body of a test to which no run comes, of those from this number on, which becomes that body's.
+    #[tactic(auto, using(crate::proofs::Below::planting))]
+    fn plant_prune(
+        &mut self,
+        alloc: Global,
+        pool: &mut Pool,
+        number: &mut u32,
+    ) -> Result<Option<Proposal>, Shortage>
+        ensures below { IfOk result (λ o. IfSome o (IsProposalBelow (length pool.new.trees))) }
+        ensures grows { Grows pool.old pool.new }
+    {
+        let from = *number as usize;
+        let there = first_unreached(
+            alloc,
+            pool,
+            &self.survey,
+            &self.theory,
+            from,
+            &mut self.effort,
+        )?;
+        let Some(found) = there else {
+            return Ok(None);
+        };
+        *number = u32::try_from(found.number).unwrap_or(u32::MAX);
+        let step = plant_pruning(alloc, pool, &found)?;
+        Ok(Some(step))
+    }
+
+    /// The step that drops a body of a test to which no run comes, in the game: the first one that is found of those from this number
+    /// on, counted from 0 in the order of their places; the number becomes that body's. Its terms are made in the pool.
+    #[tactic(auto, using(crate::proofs::Below::planting))]
+    pub fn prune(
+        &mut self,
+        alloc: Global,
+        pool: &mut Pool,
+        number: &mut u32,
+    ) -> Result<Option<Proposal>, PoolError>
+        ensures below { IfOk result (λ o. IfSome o (IsProposalBelow (length pool.new.trees))) }
+        ensures grows { Grows pool.old pool.new }
+    {
+        match self.plant_prune(alloc, pool, number) {
             Ok(proposal) => Ok(proposal),
             Err(Shortage(fault)) => Err(fault),
         }

@@ -21,11 +21,16 @@ impl Effort {
         let effort = u32::try_from(effort).unwrap_or(u32::MAX);
         self.left = self.left.saturating_sub(effort);
     }
+
+    /// Counts the effort of a beginning at a place.
+    pub(crate) fn begin(&mut self) {
+        self.spend(BEGINNING as usize);
+    }
 }
 
 /// What is said of a place of the left event, where enough follows from what is known there.
 fn entry(scene: Scene, event: Event, effort: &mut Effort) -> Result<Option<Entry>, AllocError> {
-    effort.spend(BEGINNING as usize);
+    effort.begin();
     let grounds = Grounds::at(
         scene.alloc,
         scene.pool,

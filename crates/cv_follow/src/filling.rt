@@ -276,7 +276,7 @@ fn fill(alloc: Global, work: &mut Work, game: Game, script: &[Step]) -> Result<W
 {
     let mut sequence = Sequence::start(alloc, game);
     let mut trail = Vec::new(alloc);
-    let mut strategy = Strategy::new();
+    let mut strategy = Strategy::new(false);
     'steps: for step in script {
         let end = advance(alloc, work, &mut sequence, &mut trail, &mut strategy, *step)?;
         if let Some(status) = end {

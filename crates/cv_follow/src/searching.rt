@@ -345,13 +345,15 @@ fn moves_behind(tried: Tried, made: u32) -> u32
     }
 }
 
-/// Tries what the strategy proposes, as long as it proposes something and no limit is passed, in at most so many moves.
+/// Tries what the strategy proposes, with or without further moves, as long as it proposes something and no limit is passed, in at
+/// most so many moves.
 fn try_all(
     alloc: Global,
     work: &mut Work,
     sequence: &mut Sequence,
     trail: &mut Vec<Entry>,
     moves: u32,
+    goes_further: bool,
 ) -> Result<Ending, AllocError>
     requires below { All (IsBelow (length work.old.pool.trees)) work.old.decls.list }
     requires begun { IsSearching work.old work.old (game_in work.old.pool.trees sequence.old) 0 moves
@@ -359,7 +361,7 @@ fn try_all(
     ensures { IfOk result (HasEnded work.old work.new (game_in work.old.pool.trees sequence.old)
         moves sequence.new trail.new.items) }
 {
-    let mut strategy = Strategy::new();
+    let mut strategy = Strategy::new(goes_further);
     let mut made: u32 = 0;
     'tries: for _ in 0..u64::MAX {
         let tried = attempt(alloc, work, sequence, trail, &mut strategy, made < moves)?;
@@ -371,8 +373,15 @@ fn try_all(
     Ok(Ending::Exhausted(made))
 }
 
-/// Searches for steps from a game on, in at most so many moves. The names that steps draw stand behind the others.
-pub fn search(alloc: Global, work: &mut Work, game: Game, moves: u32) -> Result<Walk, AllocError>
+/// Searches for steps from a game on, in at most so many moves, with or without further ones. The names that steps draw stand behind
+/// the others.
+pub fn search(
+    alloc: Global,
+    work: &mut Work,
+    game: Game,
+    moves: u32,
+    goes_further: bool,
+) -> Result<Walk, AllocError>
     requires game { game.root.0 < length work.old.pool.trees }
     requires small { size (tree_at work.old.pool.trees (Some game.root)) ≤ 50000 }
     requires formed { IsWellFormed (declarations work.old.pool.trees work.old.decls.list)
@@ -385,6 +394,6 @@ pub fn search(alloc: Global, work: &mut Work, game: Game, moves: u32) -> Result<
 {
     let mut sequence = Sequence::start(alloc, game);
     let mut trail = Vec::new(alloc);
-    let ending = try_all(alloc, work, &mut sequence, &mut trail, moves)?;
+    let ending = try_all(alloc, work, &mut sequence, &mut trail, moves, goes_further)?;
     finish(alloc, &work.decls, sequence.closed(), trail, ending, moves)
 }

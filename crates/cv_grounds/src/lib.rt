@@ -14,6 +14,6 @@ pub use grounds::{Grounds, LateCell};
 pub use lateness::Lateness;
 pub use nodes::{binders, items, nodes_up_to, open};
 pub use planting::plant_terms;
-pub use survey::{Event, Known, Link, Survey};
+pub use survey::{Event, Known, Link, Part, Side, Survey};
 pub use theories::theory_of;
 pub use translating::{Given, translate};

@@ -1,4 +1,4 @@
-// What is known at each place of a game, the sites of variables, and the events.
+// What is known at each place of a game, the sites of variables, the events, and the bodies of tests.
 use crate::lateness::Lateness;
 use crate::nodes::{binders, items, open};
 use cv_scope_rules::Position;
@@ -55,14 +55,32 @@ pub struct Event {
     pub last: u32,
 }
 
-/// A node on the way: what the tree is for the node above, what is known there, the condition of the `if` around, and the
-/// indices of the branch around.
+/// Which body of a test: one of an `if`, or that of the branch of a number, from 1.
+#[derive(Clone, Copy)]
+pub enum Side {
+    Then,
+    Else,
+    Branch(u32),
+}
+
+/// A body of a test: the place of the test, which body it is, and what is known there.
+#[derive(Clone, Copy)]
+pub struct Part {
+    pub place: u32,
+    pub side: Side,
+    pub last: u32,
+}
+
+/// A node on the way: what the tree is for the node above, what is known there, the condition of the `if` around, the indices of
+/// the branch around, the place of the test around, and the number of its branch, from 1.
 #[derive(Clone, Copy)]
 struct Walk {
     position: Position,
     last: u32,
     tested: Option<NodeId>,
     own: Option<NodeId>,
+    test: u32,
+    branch: u32,
 }
 
 /// What is known at each place of a game. A link that isn't there stands for nothing known.
@@ -72,6 +90,7 @@ pub struct Survey {
     links: Vec<Link>,
     sites: HashMap<u32, Site>,
     events: Vec<Event>,
+    parts: Vec<Part>,
     lateness: Lateness,
     place: u32,
 }
@@ -84,6 +103,7 @@ impl Survey {
             links: Vec::new(alloc),
             sites: HashMap::new(alloc),
             events: Vec::new(alloc),
+            parts: Vec::new(alloc),
             lateness: Lateness::of(alloc, pool, game.root)?,
             place: 0,
         };
@@ -92,6 +112,8 @@ impl Survey {
             last: 0,
             tested: None,
             own: None,
+            test: 0,
+            branch: 0,
         };
         survey.walk(pool, game.root, walk)?;
         Ok(survey)
@@ -100,6 +122,11 @@ impl Survey {
     /// The events, in the order of their places.
     pub fn events(&self) -> &[Event] {
         &self.events
+    }
+
+    /// The bodies of tests, in the order of their places.
+    pub fn parts(&self) -> &[Part] {
+        &self.parts
     }
 
     /// Which variables come later than a place.
@@ -198,21 +225,36 @@ impl Survey {
         Ok(last)
     }
 
-    /// How the walk goes on at a node's first child.
-    fn first(&mut self, walk: Walk, node: Opened) -> Result<Walk, AllocError> {
-        let position = walk.position.first(node.head);
-        let last = match (node.head, walk.position) {
-            (Head::Cons, Position::Bodies) => self.add_condition(walk.last, walk.tested, true)?,
-            (Head::Cons, Position::ElseBody) => {
-                self.add_condition(walk.last, walk.tested, false)?
-            }
-            _ => walk.last,
-        };
-        Ok(Walk {
-            position,
-            last,
+    /// Notes a body of a test.
+    fn note_part(&mut self, walk: Walk, side: Side, last: u32) -> Result<(), AllocError> {
+        let place = walk.test;
+        self.parts.push(Part { place, side, last })?;
+        Ok(())
+    }
+
+    /// What is known in a body of an `if`, which is noted.
+    fn body(&mut self, walk: Walk, side: Side, holds: bool) -> Result<u32, AllocError> {
+        let last = self.add_condition(walk.last, walk.tested, holds)?;
+        self.note_part(walk, side, last)?;
+        Ok(last)
+    }
+
+    /// How the walk goes on at the first child of a node at this place.
+    fn first(&mut self, walk: Walk, node: Opened, place: u32) -> Result<Walk, AllocError> {
+        let mut inside = Walk {
+            position: walk.position.first(node.head),
             ..walk
-        })
+        };
+        match (node.head, walk.position) {
+            (Head::Cons, Position::Bodies) => inside.last = self.body(walk, Side::Then, true)?,
+            (Head::Cons, Position::ElseBody) => inside.last = self.body(walk, Side::Else, false)?,
+            (Head::Find(_), _) => {
+                inside.test = place;
+                inside.branch = 1;
+            }
+            _ => {}
+        }
+        Ok(inside)
     }
 
     /// What is known at the rest of a list.
@@ -221,6 +263,7 @@ impl Survey {
             Position::Guards => self.add_cells(pool, walk.last, node.first),
             Position::Guarded => {
                 let last = self.add_condition(walk.last, node.first, true)?;
+                self.note_part(walk, Side::Branch(walk.branch), last)?;
                 self.note_all(pool, walk.own, last)?;
                 Ok(last)
             }
@@ -289,22 +332,21 @@ impl Survey {
         node: Opened,
         place: u32,
     ) -> Result<Walk, AllocError> {
-        let last = self.behind(pool, walk, node, place)?;
-        let position = walk.position.second(node.head);
-        let tested = match node.head {
-            Head::If => node.first,
-            _ => walk.tested,
+        let mut next = Walk {
+            position: walk.position.second(node.head),
+            last: self.behind(pool, walk, node, place)?,
+            ..walk
         };
-        let own = match node.head {
-            Head::Branch => node.first,
-            _ => walk.own,
-        };
-        Ok(Walk {
-            position,
-            last,
-            tested,
-            own,
-        })
+        match (node.head, walk.position) {
+            (Head::If, _) => {
+                next.tested = node.first;
+                next.test = place;
+            }
+            (Head::Branch, _) => next.own = node.first,
+            (Head::Cons, Position::Branches) => next.branch = walk.branch.saturating_add(1),
+            _ => {}
+        }
+        Ok(next)
     }
 
     /// Notes an event at its place.
@@ -338,7 +380,7 @@ impl Survey {
                 if child.0 >= start.0 {
                     return Ok(());
                 }
-                let inside = self.first(walk, node)?;
+                let inside = self.first(walk, node, place)?;
                 self.walk(pool, child, inside)?;
             }
             walk = self.second(pool, walk, node, place)?;

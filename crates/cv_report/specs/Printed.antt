@@ -42,7 +42,7 @@ sample_text n status.Done = file_of n
 sample_text n s = end_text s
 
 abbrev pub printed_by : Command → Report → List ℕ
-printed_by (Prove moves) r = text_of r
+printed_by (Prove moves more) r = text_of r
 printed_by Games r = shown_text r r.file ++ end_text r.status
 printed_by (Sample n true) r = summary_text n r r.file
 printed_by (Sample n false) r = sample_text n r.status

@@ -105,7 +105,7 @@ pub fn printed_text(alloc: Global, report: &Report) -> Result<Vec<u8>, AllocErro
     ensures { IfOk result (λ v. v.items ≡ printed report.now) }
 {
     match report.command {
-        Command::Prove { moves: _ } => report_text(alloc, report),
+        Command::Prove { moves: _, more: _ } => report_text(alloc, report),
         Command::Games => games_printed(alloc, report),
         Command::Sample {
             number,

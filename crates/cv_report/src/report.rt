@@ -14,8 +14,8 @@ use cv_syntax::{File, Game, Work};
 /// What the words ask for.
 #[derive(Clone, Copy, Debug, PartialEq, Eq)]
 pub enum Command {
-    /// A proof of the file's queries, in at most so many moves.
-    Prove { moves: u32 },
+    /// A proof of the file's queries, in at most so many moves, with or without further ones.
+    Prove { moves: u32, more: bool },
     /// The games of the file's proof block, without verdicts.
     Games,
     /// The text of the sample with this number, or a proof of its queries.

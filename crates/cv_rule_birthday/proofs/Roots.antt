@@ -1,5 +1,5 @@
 -- The first place of a game is its root.
-use Rattle.std.proofs.Common.{◌≡◌, ◌<◌, Bool, true, cond, nat_lt, Option, Some, None, refl, ap, subst, arith}
+use Rattle.std.proofs.Common.{◌≡◌, ◌<◌, Bool, true, false, cond, nat_lt, Option, Some, None, refl, ap, subst, arith}
 use Rattle.std.proofs.lemmas.Bool.{both_ways}
 use Rattle.cv_syntax_trees.specs.declared.head.Head.{Head}
 use Rattle.cv_syntax_trees.specs.declared.head.Head.TheVariants.{In, Par, Repl, Stop}

@@ -58,13 +58,14 @@ fn are_lines_below(count: u32, lines: &[Line]) -> bool
     true
 }
 
-/// Whether what a proposal names is below a count, where it is one of a settling step.
-pub(crate) fn is_proposal_below(count: u32, proposal: &Proposal) -> bool
+/// Whether what a proposal names is below a count, where it is one of a settling step, or of a `codef`.
+pub fn is_proposal_below(count: u32, proposal: &Proposal) -> bool
     ensures { IsTrue result → IsProposalBelow count proposal.now }
 {
     match proposal {
         Proposal::Prune { by, .. } => are_lines_below(count, by),
         Proposal::Rewrite { term, by, .. } => term.0 < count && are_lines_below(count, by),
+        Proposal::Codef { to, from, .. } => to.0 < count && from.0 < count,
         Proposal::Merge { .. } => true,
         Proposal::Unnew { .. } => true,
         Proposal::Unlet { .. } => true,

@@ -19,4 +19,7 @@ mod truths;
 mod unlet;
 mod unnew;
 
+pub use checking::is_proposal_below;
+pub use stop::Stop;
 pub use suggesting::suggest;
+pub use terms::{Given, made, put};

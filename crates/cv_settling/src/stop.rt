@@ -3,7 +3,7 @@ use std::alloc::{AllocError, AllocFailed};
 
 /// Why nothing is told: what the pool or an allocation answered.
 #[derive(Clone, Copy)]
-pub(crate) struct Stop(pub(crate) PoolError);
+pub struct Stop(pub PoolError);
 
 impl From<AllocError> for Stop {
     fn from(_e: AllocError) -> Stop {

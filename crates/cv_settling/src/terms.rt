@@ -10,9 +10,9 @@ use std::alloc::{AllocError, Global};
 
 /// A name, and the term that stands for it.
 #[derive(Clone, Copy)]
-pub(crate) struct Given {
-    pub(crate) name: u32,
-    pub(crate) term: NodeId,
+pub struct Given {
+    pub name: u32,
+    pub term: NodeId,
 }
 
 /// The term that stands for a name.
@@ -44,7 +44,7 @@ fn arguments(alloc: Global, pool: &Pool, node: Opened) -> Result<Vec<NodeId>, Al
 
 /// Makes a term of this head over terms. Where one of these isn't there it is want of memory.
 #[tactic(auto, using(crate::proofs::Growing::growing))]
-pub(crate) fn made(pool: &mut Pool, head: Head, terms: &[NodeId]) -> Result<NodeId, Stop>
+pub fn made(pool: &mut Pool, head: Head, terms: &[NodeId]) -> Result<NodeId, Stop>
     ensures { Grows pool.old pool.new }
 {
     if terms.len() as u64 >= 4_294_967_295 || !are_below(pool.live(), terms) {
@@ -58,12 +58,7 @@ pub(crate) fn made(pool: &mut Pool, head: Head, terms: &[NodeId]) -> Result<Node
 
 /// Makes a term with terms for names. Where a part isn't there it is want of memory.
 #[tactic(auto, using(crate::proofs::Growing::growing))]
-pub(crate) fn put(
-    alloc: Global,
-    pool: &mut Pool,
-    given: &[Given],
-    n: NodeId,
-) -> Result<NodeId, Stop>
+pub fn put(alloc: Global, pool: &mut Pool, given: &[Given], n: NodeId) -> Result<NodeId, Stop>
     ensures { Grows pool.old pool.new }
 {
     let Some(node) = open(pool, n) else {

@@ -7,6 +7,7 @@ ghost use Rattle.cv_strategy.specs.Phases.{phase_behind};
 use crate::moves::suggest as suggest_move;
 use cv_bound::closings::ClosedQueries;
 use cv_direct::Proposer;
+use cv_further::{suggest_carrying, suggest_renaming};
 use cv_grounds::nodes_up_to;
 use cv_settling::suggest as suggest_settling;
 use cv_step_writer::Proposal;
@@ -22,20 +23,29 @@ enum Phase {
     Closing,
     /// A move.
     Moving,
+    /// A step that drops a body of a test by all that is known there: this and what follows are further moves.
+    Pruning,
+    /// A step that puts the value of a `let` in the place of its variable.
+    Carrying,
+    /// A step that gives each definition of a variable a name.
+    Renaming,
 }
 
 /// How many nodes the games have together, in which steps that settle and moves are proposed, each counted as often as one is.
 const MOST_NODES: u32 = 5_000_000;
 
 /// How far the strategy has come: a game is settled first, then queries are closed, and then a move is made, behind which it
-/// begins again. Proposals of a phase are numbered; the query of a number is counted from 1. What closes queries is made for the
-/// first one that is asked for, and kept while queries are closed.
+/// begins again; where there is none a further move, if these are asked for. Bodies are dropped, and values carried, as long as that
+/// goes on. Proposals of a phase are numbered; the query of a number is counted from 1. What closes queries, or drops bodies, is made
+/// for the first one that is asked for, and kept for its game.
 #[derive(Drop)]
 pub struct Strategy {
     phase: Phase,
     number: u32,
     proposer: Option<Proposer>,
     left: u32,
+    goes_further: bool,
+    is_going_on: bool,
 }
 
 /// Whether a query isn't closed.
@@ -54,8 +64,8 @@ fn is_some_open(decls: &Decls, closed: &ClosedQueries) -> bool {
 }
 
 impl Strategy {
-    /// The strategy at a first game.
-    pub fn new() -> Strategy
+    /// The strategy at a first game, and whether it makes further moves.
+    pub fn new(goes_further: bool) -> Strategy
         ensures { result.phase ≡ Settling }
     {
         Strategy {
@@ -63,6 +73,8 @@ impl Strategy {
             number: 0,
             proposer: None,
             left: MOST_NODES,
+            goes_further,
+            is_going_on: false,
         }
     }
 
@@ -105,7 +117,7 @@ impl Strategy {
 
     /// Whether moves are proposed.
     pub fn is_moving(&self) -> bool {
-        matches!(self.phase, Phase::Moving)
+        !matches!(self.phase, Phase::Settling | Phase::Closing)
     }
 
     /// Goes to the first proposal of a phase.
@@ -115,6 +127,16 @@ impl Strategy {
         self.phase = phase;
         self.number = 0;
         self.proposer = None;
+        self.is_going_on = false;
+    }
+
+    /// Goes on in the phase, with the proposal of a number in the next game.
+    fn continue_at(&mut self, number: u32)
+        ensures { self.new.phase ≡ self.old.phase }
+    {
+        self.number = number;
+        self.proposer = None;
+        self.is_going_on = true;
     }
 
     /// The step that was proposed last was accepted: it leads to another game, but for one that closes a query.
@@ -125,6 +147,9 @@ impl Strategy {
             Phase::Settling => self.begin(Phase::Settling),
             Phase::Closing => self.pass_over(),
             Phase::Moving => self.begin(Phase::Settling),
+            Phase::Pruning => self.continue_at(self.number.saturating_sub(1)),
+            Phase::Carrying => self.continue_at(0),
+            Phase::Renaming => self.begin(Phase::Settling),
         }
     }
 
@@ -133,6 +158,23 @@ impl Strategy {
         ensures { self.new.phase ≡ self.old.phase }
     {
         self.number = self.number.saturating_add(1);
+    }
+
+    /// What closes queries of a game, and drops bodies: that which is kept, if one is.
+    fn take_proposer(
+        &mut self,
+        alloc: Global,
+        pool: &Pool,
+        decls: &Decls,
+        game: NodeId,
+    ) -> Result<Proposer, PoolError> {
+        match self.proposer.take() {
+            Some(proposer) => Ok(proposer),
+            None => match Proposer::of(alloc, pool, decls, game) {
+                Ok(proposer) => Ok(proposer),
+                Err(AllocError) => Err(PoolError::OutOfMemory),
+            },
+        }
     }
 
     /// The step that closes the query of the number, if one is found.
@@ -148,13 +190,7 @@ impl Strategy {
         ensures below { IfOk result (λ o. IfSome o (IsProposalBelow (length pool.new.trees))) }
         ensures grows { Grows pool.old pool.new }
     {
-        let mut proposer = match self.proposer.take() {
-            Some(proposer) => proposer,
-            None => match Proposer::of(alloc, pool, decls, game) {
-                Ok(proposer) => proposer,
-                Err(AllocError) => return Err(PoolError::OutOfMemory),
-            },
-        };
+        let mut proposer = self.take_proposer(alloc, pool, decls, game)?;
         let step = proposer.propose(alloc, pool, query, u64::from(self.number));
         self.proposer = Some(proposer);
         step
@@ -191,9 +227,105 @@ impl Strategy {
         Ok(None)
     }
 
-    /// The next step to try in a game where these queries are closed, if there is one: moves come only where a query is open.
+    /// The step that drops a body to which no run comes.
     #[tactic(auto, using(crate::proofs::Growing::growing))]
-    pub fn propose(
+    fn prune(
+        &mut self,
+        alloc: Global,
+        pool: &mut Pool,
+        decls: &Decls,
+        game: NodeId,
+    ) -> Result<Option<Proposal>, PoolError>
+        ensures below { IfOk result (λ o. IfSome o (IsProposalBelow (length pool.new.trees))) }
+        ensures grows { Grows pool.old pool.new }
+    {
+        let mut proposer = self.take_proposer(alloc, pool, decls, game)?;
+        let mut number = self.number;
+        let step = proposer.prune(alloc, pool, &mut number);
+        self.number = number;
+        self.proposer = Some(proposer);
+        step
+    }
+
+    /// The next further move to try.
+    #[tactic(auto, using(crate::proofs::Growing::growing))]
+    fn go_further(
+        &mut self,
+        alloc: Global,
+        pool: &mut Pool,
+        decls: &Decls,
+        game: NodeId,
+    ) -> Result<Option<Proposal>, PoolError>
+        ensures below { IfOk result (λ o. IfSome o (IsProposalBelow (length pool.new.trees))) }
+        ensures grows { Grows pool.old pool.new }
+    {
+        if let Phase::Pruning = self.phase {
+            let step = self.prune(alloc, pool, decls, game)?;
+            if step.is_some() {
+                return Ok(step);
+            }
+            self.begin(Phase::Carrying);
+        }
+        if let Phase::Carrying = self.phase {
+            let step = suggest_carrying(alloc, pool, decls, game, self.number)?;
+            if step.is_some() {
+                return Ok(step);
+            }
+            self.begin(Phase::Renaming);
+        }
+        match suggest_renaming(alloc, pool, decls, game, self.number) {
+            Ok(step) => Ok(step),
+            Err(AllocError) => Err(PoolError::OutOfMemory),
+        }
+    }
+
+    /// The next move to try.
+    #[tactic(auto, using(crate::proofs::Growing::growing))]
+    fn make_move(
+        &mut self,
+        alloc: Global,
+        pool: &mut Pool,
+        decls: &Decls,
+        game: NodeId,
+    ) -> Result<Option<Proposal>, PoolError>
+        ensures below { IfOk result (λ o. IfSome o (IsProposalBelow (length pool.new.trees))) }
+        ensures grows { Grows pool.old pool.new }
+    {
+        if let Phase::Moving = self.phase {
+            let step = suggest_move(alloc, pool, decls, game, self.number)?;
+            if step.is_some() || !self.goes_further {
+                return Ok(step);
+            }
+            self.begin(Phase::Pruning);
+        }
+        self.go_further(alloc, pool, decls, game)
+    }
+
+    /// The next step of those that go on in their phase.
+    #[tactic(auto, using(crate::proofs::Growing::growing))]
+    fn go_on(
+        &mut self,
+        alloc: Global,
+        pool: &mut Pool,
+        decls: &Decls,
+        game: NodeId,
+    ) -> Result<Option<Proposal>, PoolError>
+        ensures below { IfOk result (λ o. IfSome o (IsProposalBelow (length pool.new.trees))) }
+        ensures grows { Grows pool.old pool.new }
+    {
+        if !self.may_look(pool, game) {
+            return Ok(None);
+        }
+        match self.phase {
+            Phase::Pruning => self.prune(alloc, pool, decls, game),
+            Phase::Carrying => suggest_carrying(alloc, pool, decls, game, self.number),
+            _ => Ok(None),
+        }
+    }
+
+    /// The next step to try, by the phase: it settles the game, closes a query or is a move.
+    #[tactic(auto, using(crate::proofs::Growing::growing))]
+    fn go_by_phase(
         &mut self,
         alloc: Global,
         pool: &mut Pool,
@@ -222,6 +354,30 @@ impl Strategy {
         if !may_move || !is_some_open(decls, closed) || !self.may_look(pool, game) {
             return Ok(None);
         }
-        suggest_move(alloc, pool, decls, game, self.number)
+        self.make_move(alloc, pool, decls, game)
+    }
+
+    /// The next step to try in a game where these queries are closed, if there is one: moves come only where a query is open.
+    #[tactic(auto, using(crate::proofs::Growing::growing))]
+    pub fn propose(
+        &mut self,
+        alloc: Global,
+        pool: &mut Pool,
+        decls: &Decls,
+        game: NodeId,
+        closed: &ClosedQueries,
+        may_move: bool,
+    ) -> Result<Option<Proposal>, PoolError>
+        ensures below { IfOk result (λ o. IfSome o (IsProposalBelow (length pool.new.trees))) }
+        ensures grows { Grows pool.old pool.new }
+    {
+        if self.is_going_on {
+            let step = self.go_on(alloc, pool, decls, game)?;
+            if step.is_some() {
+                return Ok(step);
+            }
+            self.begin(Phase::Settling);
+        }
+        self.go_by_phase(alloc, pool, decls, game, closed, may_move)
     }
 }

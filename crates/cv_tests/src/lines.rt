@@ -68,7 +68,10 @@ fn report(rt: &impl Abort, alloc: Global) -> Result<Report, Fail>
     Ok(Report {
         work,
         file: Some(file),
-        command: Command::Prove { moves: 32 },
+        command: Command::Prove {
+            moves: 32,
+            more: false,
+        },
         script: None,
         steps: Vec::new(alloc),
         trail: Vec::new(alloc),

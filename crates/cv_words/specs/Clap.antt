@@ -20,11 +20,14 @@ number_rule = required (new_rule (codes "number"))
 abbrev pub moves_rule : Rule
 moves_rule = record (new_rule (codes "moves")) { long = Some (codes "moves") }
 
+abbrev pub more_rule : Rule
+more_rule = record (new_rule (codes "more")) { long = Some (codes "more"); action = Some SetTrue }
+
 abbrev pub prove_rule : Rule
 prove_rule = record (new_rule (codes "prove")) { long = Some (codes "prove"); action = Some SetTrue }
 
 abbrev pub prove_app : App
-prove_app = with_rule (with_rule (new_app (codes "prove")) file_rule) moves_rule
+prove_app = with_rule (with_rule (with_rule (new_app (codes "prove")) file_rule) moves_rule) more_rule
 
 abbrev pub games_app : App
 games_app = with_rule (new_app (codes "games")) file_rule

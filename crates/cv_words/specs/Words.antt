@@ -29,8 +29,8 @@ is_set (Some text) = bytes_eq text (codes "true")
 
 -- what a subcommand asks for, by its name and by what stands behind it
 
-abbrev pub prove_asked : (file moves : Option Text) → Option Asked
-prove_asked file moves = option_and_then (λ name. option_map (λ n. Prove name n) (moves_in moves)) (file_in file)
+abbrev pub prove_asked : (file moves more : Option Text) → Option Asked
+prove_asked file moves more = option_and_then (λ name. option_map (λ n. Prove name n (is_set more)) (moves_in moves)) (file_in file)
 
 abbrev pub games_asked : (file : Option Text) → Option Asked
 games_asked file = option_map (λ name. Games name) (file_in file)
@@ -40,7 +40,7 @@ sample_asked number prove = option_map (λ n. Sample n (is_set prove)) (option_a
 
 abbrev pub asked_by : Text → List Row → Option Asked
 asked_by name rows =
-    if bytes_eq name (codes "prove") then prove_asked (first_of (codes "file") rows) (first_of (codes "moves") rows)
+    if bytes_eq name (codes "prove") then prove_asked (first_of (codes "file") rows) (first_of (codes "moves") rows) (first_of (codes "more") rows)
     else (if bytes_eq name (codes "games") then games_asked (first_of (codes "file") rows)
     else sample_asked (first_of (codes "number") rows) (first_of (codes "prove") rows))
 
@@ -50,6 +50,6 @@ command_read words = option_and_then (λ p. asked_by p.0 p.1) (taken words)
 
 -- the same of what was read
 abbrev pub asked_of : Request → Asked
-asked_of (request.Prove file moves) = Prove file.now moves
+asked_of (request.Prove file moves more) = Prove file.now moves more
 asked_of (request.Games file) = Games file.now
 asked_of (request.Sample number prove) = Sample number prove

@@ -1,7 +1,7 @@
 ghost use Rattle.std.specs.Prelude.{◌≡◌, IfOk, codes, false};
 ghost use Rattle.clap.specs.Simple.{on_top};
 ghost use Rattle.clap.specs.Words.{app_of, new_app, rule_of};
-ghost use Rattle.cv_words.specs.Clap.{cv_app, file_rule, moves_rule, number_rule, prove_rule, quiet};
+ghost use Rattle.cv_words.specs.Clap.{cv_app, file_rule, more_rule, moves_rule, number_rule, prove_rule, quiet};
 
 use clap::{Arg, ArgAction, Command};
 use std::alloc::{AllocError, Global};
@@ -30,6 +30,16 @@ fn moves_arg<'a>(alloc: Global) -> Arg<'a>
     Arg::new(alloc, "moves").long("moves")
 }
 
+/// The flag that asks for further moves.
+fn more_arg<'a>(alloc: Global) -> Arg<'a>
+    ensures rule { rule_of result ≡ more_rule }
+    ensures local { result.global ≡ false }
+{
+    Arg::new(alloc, "more")
+        .long("more")
+        .action(ArgAction::SetTrue)
+}
+
 /// The flag that asks for a proof of a sample.
 fn prove_arg<'a>(alloc: Global) -> Arg<'a>
     ensures rule { rule_of result ≡ prove_rule }
@@ -51,13 +61,17 @@ fn quiet_command<'a>(alloc: Global) -> Command<'a>
         .subcommand_required(true)
 }
 
-/// The program's command line: `prove FILE [--moves N]`, `games FILE` or `sample N [--prove]`.
+/// The program's command line: `prove FILE [--moves N] [--more]`, `games FILE` or `sample N [--prove]`.
 pub(crate) fn cv_command<'a>(alloc: Global) -> Result<Command<'a>, AllocError>
     ensures { IfOk result (λ c. app_of c ≡ cv_app) }
 {
     let file = file_arg(alloc);
     let moves = moves_arg(alloc);
-    let prove = Command::new(alloc, "prove").arg(file)?.arg(moves)?;
+    let more = more_arg(alloc);
+    let prove = Command::new(alloc, "prove")
+        .arg(file)?
+        .arg(moves)?
+        .arg(more)?;
     let shown = file_arg(alloc);
     let games = Command::new(alloc, "games").arg(shown)?;
     let number = number_arg(alloc);

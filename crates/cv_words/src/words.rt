@@ -22,12 +22,21 @@ const MOST_SAMPLES: u32 = 32;
 /// What words ask for.
 #[derive(Clone, Copy, Debug, PartialEq, Eq)]
 pub enum Request<'a> {
-    /// A proof of a file's queries, in at most so many moves.
-    Prove { file: &'a str, moves: u32 },
+    /// A proof of a file's queries, in at most so many moves, with or without further ones.
+    Prove {
+        file: &'a str,
+        moves: u32,
+        more: bool,
+    },
     /// The games of a file's proof block, without verdicts.
-    Games { file: &'a str },
+    Games {
+        file: &'a str,
+    },
     /// The text of the sample of a number, or a proof of its queries.
-    Sample { number: u32, prove: bool },
+    Sample {
+        number: u32,
+        prove: bool,
+    },
 }
 
 /// Whether a text is what is written for a number.
@@ -92,11 +101,11 @@ fn moves(alloc: Global, matches: &ArgMatches<'_>) -> Result<Option<u32>, AllocEr
     }
 }
 
-/// Whether a proof of a sample is asked for.
-fn is_set(matches: &ArgMatches<'_>) -> bool
-    ensures { result ≡ set (first_of (codes "prove") (rows_of (found_of matches.now))) }
+/// Whether a flag is given.
+fn is_set(matches: &ArgMatches<'_>, id: &str) -> bool
+    ensures { result ≡ set (first_of id.now (rows_of (found_of matches.now))) }
 {
-    match given(matches, "prove") {
+    match given(matches, id) {
         Some(text) => text == "true",
         None => false,
     }
@@ -109,13 +118,18 @@ fn prove_request<'a>(
 ) -> Result<Option<Request<'a>>, AllocError>
     ensures { IfOk result (λ r. option_map asked_of r
         ≡ prove_asked (first_of (codes "file") (rows_of (found_of matches.now)))
-        (first_of (codes "moves") (rows_of (found_of matches.now)))) }
+        (first_of (codes "moves") (rows_of (found_of matches.now)))
+        (first_of (codes "more") (rows_of (found_of matches.now)))) }
 {
     let Some(file) = file(matches) else {
         return Ok(None);
     };
     match moves(alloc, matches)? {
-        Some(moves) => Ok(Some(Request::Prove { file, moves })),
+        Some(moves) => Ok(Some(Request::Prove {
+            file,
+            moves,
+            more: is_set(matches, "more"),
+        })),
         None => Ok(None),
     }
 }
@@ -146,7 +160,7 @@ fn sample_request<'a>(
     match number_in(alloc, text, 1, MOST_SAMPLES)? {
         Some(number) => Ok(Some(Request::Sample {
             number,
-            prove: is_set(matches),
+            prove: is_set(matches, "prove"),
         })),
         None => Ok(None),
     }

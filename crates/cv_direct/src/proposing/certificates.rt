@@ -16,7 +16,7 @@ use std::alloc::Global;
 
 /// The lines of a derivation, with its terms in the pool.
 #[tactic(auto, using(crate::proofs::Below::planting))]
-fn plant_lines(
+pub(crate) fn plant_lines(
     alloc: Global,
     pool: &mut Pool,
     by: &Derivation,
