@@ -1,7 +1,7 @@
-mod Happening
-mod Behind
-mod Sites
+pub mod Happening
+pub mod Behind
+pub mod Sites
 mod Putting
-mod Naming
-mod Meeting
-mod Closing
+pub mod Naming
+pub mod Meeting
+pub mod Closing

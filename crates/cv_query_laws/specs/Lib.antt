@@ -1,2 +1,4 @@
 pub mod correspondences
 pub mod secrets
+pub mod routes
+pub mod visits

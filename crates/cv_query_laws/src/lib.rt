@@ -2,4 +2,6 @@
 #![tactic(auto)]
 
 pub mod correspondences;
+pub mod routes;
 pub mod secrets;
+pub mod visits;

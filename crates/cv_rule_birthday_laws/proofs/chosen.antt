@@ -3,3 +3,4 @@ pub mod Drawn
 pub mod Below
 pub mod Pairs
 pub mod Runs
+pub mod Assigned

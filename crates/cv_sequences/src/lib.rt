@@ -1,6 +1,7 @@
 // The laws of accepted steps and of sequences of games.
 #![tactic(auto)]
 
+pub mod bounds;
 pub mod costs;
 pub mod secrets;
 pub mod soundness;

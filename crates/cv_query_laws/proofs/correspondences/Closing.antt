@@ -53,7 +53,7 @@ all_at P [] n x a e = absurd (none e)
 all_at P (y ∷ xs) zero x a e = let same : y ≡ x = cc in subst P same a.0
 all_at P (y ∷ xs) (suc n) x a e = all_at P xs n x a.1 e
 
-both_all : {A : Type 0} (P Q : A → Type 0) (xs : List A) → All P xs → All Q xs → All (λ x. P x × Q x) xs
+pub both_all : {A : Type 0} (P Q : A → Type 0) (xs : List A) → All P xs → All Q xs → All (λ x. P x × Q x) xs
 both_all P Q [] a b = All-nil (λ x. P x × Q x)
 both_all P Q (x ∷ xs) a b = All-cons (λ x. P x × Q x) x xs (All-head P x xs a, All-head Q x xs b) (both_all P Q xs (All-tail P x xs a) (All-tail Q x xs b))
 

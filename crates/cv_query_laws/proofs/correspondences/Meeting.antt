@@ -1,18 +1,17 @@
 -- A left event whose node has an entry is met by the events before it.
-use Rattle.std.proofs.Common.{◌≡◌, ℕ, zero, suc, ◌<◌, Bool, true, false, cond, List, [], ◌∷◌, map, inl, inr, Option, Some, None, is_some, refl, sym, ap, ap₂, subst, ◌∙◌, arith, eqb-true}
+use Rattle.std.proofs.Common.{◌≡◌, ℕ, zero, suc, ◌<◌, Bool, true, false, cond, List, [], ◌∷◌, map, inl, inr, Option, Some, None, is_some, refl, sym, ap, subst, ◌∙◌, arith, eqb-true}
 use Rattle.std.specs.Prelude.{Contains}
 use Rattle.std.proofs.lemmas.Bool.{both_ways, and_parts}
 use Rattle.std.proofs.lemmas.List.Elements.{Contains-append_left, Contains-append_right}
 use Rattle.std.specs.List.{AllByRecursion}
 use Rattle.cv_syntax_trees.specs.declared.head.Head.{Head}
 use Rattle.cv_syntax_trees.specs.declared.head.Head.TheVariants.{AboveRoute, And, Apply, AtEntry, Branch, Call, CellRoute, Cons, Eq, HoldsRoute, In, Key, Leaf, Let, NeverEntry, New, No, Not, Or, Read, WithEntry, Yes}
-use Rattle.cv_syntax_trees.specs.Declarations.{Declaration}
 use Rattle.cv_syntax_trees.specs.Head.{weight}
 use Rattle.cv_syntax_trees.specs.Tree.{Tree, Empty, Node, first}
 use Rattle.cv_meaning.specs.Side.{no_side}
 use Rattle.cv_meaning.specs.Interpretation.{Interpretation, Setting, setting_of}
 use Rattle.cv_meaning.specs.Memory.{Happened, Indices, Local, Store, nowhere, tuple}
-use Rattle.cv_meaning.specs.Terms.{found_in, leaf_value_from, or_zero, value, values}
+use Rattle.cv_meaning.specs.Terms.{found_in, leaf_value_from, or_zero, value, values, values_here}
 use Rattle.cv_meaning.specs.Candidates.{is_assigned}
 use Rattle.cv_meaning.specs.Satisfies.{Satisfies}
 use Rattle.cv_meaning.specs.Correspondences.{Atom, Correspondence, RightEvent, RightTerm}
@@ -50,10 +49,11 @@ use Rattle.cv_scene.specs.Scenes.{Scene}
 use Rattle.cv_scene.specs.Sights.{at_cell, is_cell_at, is_term_of, sight_at}
 use Rattle.cv_scene.specs.Terms.{above_at, is_sort, is_term_at, replications_at, replications_by, signature_in}
 use Rattle.cv_query_certificates.specs.Accepted.{IsEntry, Proves}
-use Rattle.cv_query_certificates.specs.Claims.{Claim, at_place, behind_cell, claim_of, claims_of, entry_claims, equations, joined}
+use Rattle.cv_query_certificates.specs.Claims.{at_place, behind_cell, claim_of, claims_of, equations, joined}
 use Rattle.cv_query_certificates.specs.Claims as claims
 use Rattle.cv_query_certificates.specs.EventNodes.{are_for, arguments_at, is_event_above, only_site, place_in, the_only}
 use Rattle.cv_query_certificates.specs.Forms.{has_route_form, have_route_forms, have_types, is_above_site, is_number}
+use Rattle.cv_query_laws.specs.routes.Ends.{Execution, HoldsBy, IsMetBy, item_at, routes_of, witnesses_of}
 use Rattle.cv_query_laws.proofs.correspondences.Behind.{EventNode, IsAmong, arguments_phrase, event_node, known_above, site_keeps}
 use Rattle.cv_query_laws.proofs.correspondences.Naming.{HasNamedAtoms, IsNamed, IsNamedAtom}
 use Rattle.cv_query_laws.proofs.correspondences.Putting.{as_many_left, as_many_right, both_names, both_values, equal_values}
@@ -72,7 +72,7 @@ among_all P x (y ∷ ys) (inl e) h = subst P (sym e) h.0
 among_all P x (y ∷ ys) (inr a) h = among_all P x ys a h.1
 
 -- what defines a variable is a node with a place
-maker_counts : (h : Head) (a : Tree) (x : ℕ) → made_by h a (Variable x) ≡ true → weight h ≡ 1
+pub maker_counts : (h : Head) (a : Tree) (x : ℕ) → made_by h a (Variable x) ≡ true → weight h ≡ 1
 maker_counts (New y T) a x e = refl
 maker_counts (Let y T) a x e = refl
 maker_counts (Key y) a x e = refl
@@ -125,8 +125,7 @@ pub record IsThere (s : Scene) (i : Interpretation) (fine : Game (setting_of s.d
 
 module _ (s : Scene) (i : Interpretation) (ready : IsReady s.declarations s.game) (model : Satisfies s.declarations i)
     (fine : Game (setting_of s.declarations i) (is_variable s.game) s.game) (q : Correspondence) (p : ℕ) (l : Local) (there : IsThere s i fine p l)
-    (true-at : (by targets : Tree) → Proves s p (record { by = by; targets = targets }) → AllByRecursion (IsTrue (setting_of s.declarations i) l.indices l.memory.store l.memory.store) (statements (lines_of targets)))
-    (es : List Happened) (kept : EventsKept l.memory.events es) where
+    (true-at : (by targets : Tree) → Proves s p (record { by = by; targets = targets }) → AllByRecursion (IsTrue (setting_of s.declarations i) l.indices l.memory.store l.memory.store) (statements (lines_of targets))) where
   abbrev g : Setting
   g = setting_of s.declarations i
 
@@ -142,8 +141,30 @@ module _ (s : Scene) (i : Interpretation) (ready : IsReady s.declarations s.game
   abbrev args : Tree
   args = arguments_at s.game p
 
-  abbrev left : Happened
+  abbrev pub left : Happened
   left = record { event = q.event; values = values g at m args }
+
+  -- the event of a node, with the values of its arguments at these indices
+  abbrev pub event_of : (f n : ℕ) → Indices → Happened
+  event_of f n is = record { event = f; values = values g is m (arguments_at s.game n) }
+
+  -- an event's node that stands above the place executed its event, and so did one above the definition of an assigned cell
+  abbrev pub ExecutesAbove : Execution → Type 0
+  ExecutesAbove E = (f n : ℕ) (ms : Tree) → EventNode s.game f ms n p → E n (tuple at) (event_of f n at)
+
+  abbrev pub ExecutesBehind : Execution → Type 0
+  ExecutesBehind E =
+      (x : ℕ) (u : List ℕ) (v : ℕ) → m x u ≡ Some v → (r : ℕ) (Δ : Context) → sites_of s.game x ≡ (r, Δ) ∷ [] → (h : SiteHolds g variable s.game fine x u v m l.memory.events) (f n : ℕ) (ms : Tree) → EventNode s.game f ms n h.place → E n u (event_of f n h.indices)
+
+  -- it is known there that it was executed
+  pub above_event : (f n : ℕ) (ms : Tree) → EventNode s.game f ms n p → EventHolds g variable at m l.memory.events (f, arguments_at s.game n)
+  above_event f n ms node = among_all (EventHolds g variable at m l.memory.events) (f, arguments_at s.game n) there.above.events (known_above s.game f ms n p there.above node there.known) there.holds.events
+
+  pub site_event : (x : ℕ) (u : List ℕ) (v : ℕ) (h : SiteHolds g variable s.game fine x u v m l.memory.events) (f n : ℕ) (ms : Tree) → EventNode s.game f ms n h.place → EventHolds g variable h.indices m l.memory.events (f, arguments_at s.game n)
+  site_event x u v h f n ms node =
+      let known = stands_known s.game h.place h.phrase h.above (Node h.head h.one h.two) (maker_counts h.head h.one x h.defines) h.stands in
+      among_all (EventHolds g variable h.indices m l.memory.events) (f, arguments_at s.game n) (after_site h.head h.one h.two h.above).events
+      (site_keeps (f, arguments_at s.game n) h.head h.one h.two h.above (known_above s.game f ms n h.place h.above node known)) h.holds.events
 
   -- `never`
 
@@ -184,7 +205,7 @@ module _ (s : Scene) (i : Interpretation) (ready : IsReady s.declarations s.game
     witnesses_long (x ∷ xs) Empty e = absurd (both_ways _ refl e)
     witnesses_long (x ∷ xs) (Node h a b) e = witnesses_long xs b (and_parts (is_term_of (sight_at s p) (OfType x.1) a) _ e).1
 
-    module _ (typed : have_types (sight_at s p) q.others ws ≡ true) where
+    module _ (typed : have_types (sight_at s p) q.others ws ≡ true) (E : Execution) (above : ExecutesAbove E) (behind : ExecutesBehind E) where
       abbrev ρ : Indices
       ρ = query_values q left (values g at m ws)
 
@@ -213,16 +234,15 @@ module _ (s : Scene) (i : Interpretation) (ready : IsReady s.declarations s.game
           ap (λ ns. values g at m (with_given ns (joined args ws) t)) (sym names_same)
           ∙ put_values g at m nowhere (IsNamed s.declarations q) ⊥ ρ (joined args ws) values_same known_leaf (λ b x u. absurd b) t o
 
-      -- an event that was recorded with the values of the query's terms
-      held : (f : ℕ) (ms : Tree) (vs : List ℕ) → IsRecorded (record { event = f; values = vs }) l.memory.events → vs ≡ values g ρ nowhere ms → IsHeld g es ρ (RightEvent false f ms)
-      held f ms vs r e = recorded_contains (right_event g ρ f ms) es (subst (λ vs. IsRecorded (record { event = f; values = vs }) es) e (kept _ r))
+      -- an event that was executed with the values of the query's terms
+      held : (n : ℕ) (u : List ℕ) (f : ℕ) (ms : Tree) (vs : List ℕ) → E n u (record { event = f; values = vs }) → vs ≡ values g ρ nowhere ms → E n u (right_event g ρ f ms)
+      held n u f ms vs r e = subst (λ vs. E n u (record { event = f; values = vs })) e r
 
       above_held : (f : ℕ) (ms n by : Tree) → AreOver (IsNamed s.declarations q) ⊥ ms → is_event_above s.game f ms (place_in n) p ≡ true
-          → Proves s p (record { by = by; targets = equations (arguments_at s.game (place_in n)) (put ms) }) → IsHeld g es ρ (RightEvent false f ms)
+          → Proves s p (record { by = by; targets = equations (arguments_at s.game (place_in n)) (put ms) }) → E (place_in n) (tuple at) (right_event g ρ f ms)
       above_held f ms n by o e d =
           let node = event_node s.game f ms (place_in n) p e in
-          let z = among_all (EventHolds g variable at m l.memory.events) (f, arguments_at s.game (place_in n)) there.above.events (known_above s.game f ms (place_in n) p there.above node there.known) there.holds.events in
-          held f ms (values g at m (arguments_at s.game (place_in n))) z.recorded
+          held (place_in n) (tuple at) f ms (values g at m (arguments_at s.game (place_in n))) (above f (place_in n) ms node)
           (equal_values g at m m (arguments_at s.game (place_in n)) (put ms) (as_many_right (IsNamed s.declarations q) ⊥ (claims.names_of q) (joined args ws) (arguments_at s.game (place_in n)) ms o node.long) (true-at by _ d) ∙ terms_value ms o)
 
       -- behind the only definition of an assigned cell
@@ -236,20 +256,18 @@ module _ (s : Scene) (i : Interpretation) (ready : IsReady s.declarations s.game
         arguments = arguments_at s.game (place_in n)
 
         site_held : (r : ℕ) (Δ : Context) → sites_of s.game x ≡ (r, Δ) ∷ [] → is_event_above s.game f ms (place_in n) r ≡ true
-            → (v : ℕ) → SiteHolds g variable s.game fine x u v m l.memory.events → AllByRecursion (IsTrue g at m m) (statements (lines_of (equations (at_cell c Δ arguments) (put ms)))) → IsHeld g es ρ (RightEvent false f ms)
-        site_held r Δ one e v h lines =
+            → (v : ℕ) → m x u ≡ Some v → SiteHolds g variable s.game fine x u v m l.memory.events → AllByRecursion (IsTrue g at m m) (statements (lines_of (equations (at_cell c Δ arguments) (put ms)))) → E (place_in n) (values g at m (first c)) (right_event g ρ f ms)
+        site_held r Δ one e v assigned h lines =
             let same = only_definition s.game x r Δ (h.place, after_site h.head h.one h.two h.above) one (stands_definition s.game x h.place h.phrase h.above h.head h.one h.two h.stands h.defines) in
             let node : EventNode s.game f ms (place_in n) h.place = event_node s.game f ms (place_in n) h.place (subst (λ r. is_event_above s.game f ms (place_in n) r ≡ true) (sym same.0) e) in
-            let known = stands_known s.game h.place h.phrase h.above (Node h.head h.one h.two) (maker_counts h.head h.one x h.defines) h.stands in
-            let z = among_all (EventHolds g variable h.indices m l.memory.events) (f, arguments) (after_site h.head h.one h.two h.above).events
-            (site_keeps (f, arguments) h.head h.one h.two h.above (known_above s.game f ms (place_in n) h.place h.above node known)) h.holds.events in
+            let z = site_event x u v h f (place_in n) ms node in
             let over : AreOver (L g variable h.indices m) (Unit {0}) arguments =
             all_readable_over g variable h.indices m arguments (arguments_phrase Inputs s.game (place_in n) f arguments node.next ready.formed.phrase node.stands) z.readable in
             let names : names_of h.indices ≡ map (λ (r : ℕ × ℕ). r.0) Δ.replications = index_names g h.indices _ h.matches.named ∙ ap (map (λ (r : ℕ × ℕ). r.0)) (sym same.1) in
             let put-there : values g at m (at_cell c Δ arguments) ≡ values g h.indices m arguments =
             ap (λ ns. values g at m (with_given ns (first c) arguments)) (sym names)
             ∙ put_values g at m m (L g variable h.indices m) (Unit {0}) h.indices (first c) (indexed ∙ sym h.at) (leaf h) (λ b y w. refl) arguments over in
-            held f ms (values g h.indices m arguments) z.recorded
+            held (place_in n) (values g at m (first c)) f ms (values g h.indices m arguments) (subst (λ u. E (place_in n) u (event_of f (place_in n) h.indices)) (sym indexed) (behind x u v assigned r Δ one h f (place_in n) ms node))
             (sym put-there
             ∙ equal_values g at m m (at_cell c Δ arguments) (put ms)
             (as_many_left (L g variable h.indices m) (Unit {0}) (map (λ (r : ℕ × ℕ). r.0) Δ.replications) (first c) arguments (put ms) over
@@ -262,13 +280,13 @@ module _ (s : Scene) (i : Interpretation) (ready : IsReady s.declarations s.game
             leaf h y (cell k c v a) f = ap (leaf_value_from g m y) (variable_none g variable there.above.replications at there.matches y v)
 
         cell_held : (ls : List (ℕ × Context)) → sites_of s.game x ≡ ls → is_above_site s.game f ms (place_in n) (the_only ls) ≡ true → is_some (m x u) ≡ true
-            → AllByRecursion (IsTrue g at m m) (statements (lines_of (equations (behind_cell c (the_only ls) arguments) (put ms)))) → IsHeld g es ρ (RightEvent false f ms)
+            → AllByRecursion (IsTrue g at m m) (statements (lines_of (equations (behind_cell c (the_only ls) arguments) (put ms)))) → E (place_in n) (values g at m (first c)) (right_event g ρ f ms)
         cell_held [] k e a lines = absurd (both_ways _ refl e)
-        cell_held (d ∷ []) k e a lines = let v = some_value (m x u) a in site_held d.0 d.1 k e v.0 (there.stores x u v.0 v.1) lines
+        cell_held (d ∷ []) k e a lines = let v = some_value (m x u) a in site_held d.0 d.1 k e v.0 v.1 (there.stores x u v.0 v.1) lines
         cell_held (d ∷ (b ∷ ls)) k e a lines = absurd (both_ways _ refl e)
 
       by_cell : (f : ℕ) (ms n : Tree) → AreOver (IsNamed s.declarations q) ⊥ ms → (c : Tree) → is_phrase OneCell c ≡ true → is_above_site s.game f ms (place_in n) (only_site s.game c) ≡ true → is_assigned g at m m c ≡ true
-          → AllByRecursion (IsTrue g at m m) (statements (lines_of (equations (behind_cell c (only_site s.game c) (arguments_at s.game (place_in n))) (put ms)))) → IsHeld g es ρ (RightEvent false f ms)
+          → AllByRecursion (IsTrue g at m m) (statements (lines_of (equations (behind_cell c (only_site s.game c) (arguments_at s.game (place_in n))) (put ms)))) → E (place_in n) (values g at m (first c)) (right_event g ρ f ms)
       unfolding is_phrase value
       by_cell f ms n o Empty k e a lines = absurd (both_ways _ refl k)
       by_cell f ms n o (Node (Leaf x) b d) k e a lines =
@@ -277,7 +295,7 @@ module _ (s : Scene) (i : Interpretation) (ready : IsReady s.declarations s.game
       by_cell f ms n o (Node h b d) k e a lines = absurd (both_ways _ refl k)
 
       cell_met : (f : ℕ) (ms n by c : Tree) → AreOver (IsNamed s.declarations q) ⊥ ms → is_cell_at s p c ≡ true → is_above_site s.game f ms (place_in n) (only_site s.game c) ≡ true
-          → Proves s p (claim_of s put (RightEvent false f ms) (Node CellRoute c (Node Cons n by))) → IsHeld g es ρ (RightEvent false f ms)
+          → Proves s p (claim_of s put (RightEvent false f ms) (Node CellRoute c (Node Cons n by))) → E (place_in n) (values g at m (first c)) (right_event g ρ f ms)
       unfolding lines_of statements
       cell_met f ms n by c o k e d =
           let t = true-at by _ d in
@@ -285,11 +303,11 @@ module _ (s : Scene) (i : Interpretation) (ready : IsReady s.declarations s.game
 
       -- a route to a right event or term
 
-      term_met : (t by : Tree) → IsOver (IsNamed s.declarations q) ⊥ t → Proves s p (claim_of s put (RightTerm t) (Node HoldsRoute by Empty)) → IsHeld g es ρ (RightTerm t)
+      term_met : (t by : Tree) → IsOver (IsNamed s.declarations q) ⊥ t → Proves s p (claim_of s put (RightTerm t) (Node HoldsRoute by Empty)) → value g ρ nowhere t ≡ 1
       unfolding lines_of statements
       term_met t by o d = sym (term_value t o) ∙ (true-at by _ d).0
 
-      route_met : (c : Atom) (route : Tree) → IsNamedAtom s.declarations q c → has_route_form s p c route ≡ true → Proves s p (claim_of s put c route) → IsHeld g es ρ c
+      route_met : (c : Atom) (route : Tree) → IsNamedAtom s.declarations q c → has_route_form s p c route ≡ true → Proves s p (claim_of s put c route) → HoldsBy g E l ρ c route
       route_met (RightEvent inj f ms) (Node AboveRoute n by) o e d = above_held f ms n by o e d
       route_met (RightEvent inj f ms) (Node CellRoute c (Node h n by)) o e d = let z = and_parts (is_cell_at s p c) _ e in cell_met f ms n by c o z.0 z.1 d
       route_met (RightEvent inj f ms) (Node CellRoute c Empty) o e d = absurd (both_ways _ refl e)
@@ -299,7 +317,7 @@ module _ (s : Scene) (i : Interpretation) (ready : IsReady s.declarations s.game
       route_met (RightTerm t) (Node h a b) o e d = absurd (both_ways _ refl e)
       route_met (RightTerm t) Empty o e d = absurd (both_ways _ refl e)
 
-      routes_met : (cs : List Atom) (routes : Tree) → AllByRecursion (IsNamedAtom s.declarations q) cs → have_route_forms s p cs routes ≡ true → AllByRecursion (Proves s p) (claims_of s put cs routes) → (n : ℕ) (c : Atom) → StandsAt cs n c → IsHeld g es ρ c
+      routes_met : (cs : List Atom) (routes : Tree) → AllByRecursion (IsNamedAtom s.declarations q) cs → have_route_forms s p cs routes ≡ true → AllByRecursion (Proves s p) (claims_of s put cs routes) → (n : ℕ) (c : Atom) → StandsAt cs n c → HoldsBy g E l ρ c (item_at routes n)
       routes_met [] routes o e d n c k = absurd (no_atom c k)
         where
           no_atom : (c : Atom) → ◌≡◌ {A = Option Atom} None (Some c) → ⊥
@@ -307,18 +325,38 @@ module _ (s : Scene) (i : Interpretation) (ready : IsReady s.declarations s.game
       routes_met (c ∷ cs) Empty o e d n a k = absurd (both_ways _ refl e)
       routes_met (c ∷ cs) (Node h route more) o e d zero a k =
           let same : c ≡ a = cc in
-          subst (IsHeld g es ρ) same (route_met c route o.0 (and_parts (has_route_form s p c route) _ e).0 d.0)
+          subst (λ a. HoldsBy g E l ρ a route) same (route_met c route o.0 (and_parts (has_route_form s p c route) _ e).0 d.0)
       routes_met (c ∷ cs) (Node h route more) o e d (suc n) a k = routes_met cs more o.1 (and_parts (has_route_form s p c route) _ e).1 d.1 n a k
 
-  pub entry_met : (entry : Tree) → HasNamedAtoms s.declarations q → IsEntry s q p entry → IsMet g q es left
-  entry_met (Node AtEntry n (Node NeverEntry by e)) o z = absurd (never_met by z.claims.0)
-  entry_met (Node AtEntry n (Node WithEntry ws routes)) o z =
+  pub entry_met_by : (E : Execution) → ExecutesAbove E → ExecutesBehind E → (entry : Tree) → HasNamedAtoms s.declarations q → IsEntry s q p entry → IsMetBy g q E l left entry
+  entry_met_by E above behind (Node AtEntry n (Node NeverEntry by e)) o z = absurd (never_met by z.claims.0)
+  entry_met_by E above behind (Node AtEntry n (Node WithEntry ws routes)) o z =
       let a = and_parts (is_number p n) _ z.form in
       let b = and_parts (are_for q.variables args) _ a.1 in
       let c = and_parts (have_types (sight_at s p) q.others ws) _ b.1 in
       record {
-        others = values g at m ws;
         are_values = witnesses_sorted ws b.0 q.others ws c.0;
-        hold = routes_met ws b.0 c.0 q.atoms routes o c.1 z.claims;
+        hold = routes_met ws b.0 c.0 E above behind q.atoms routes o c.1 z.claims;
       }
-  entry_met entry o z = absurd (both_ways _ refl z.form)
+  entry_met_by E above behind entry o z = absurd (both_ways _ refl z.form)
+
+  -- so the event is met by the events that were recorded
+  module _ (es : List Happened) (kept : EventsKept l.memory.events es) where
+    recorded_above : ExecutesAbove (λ n u e. Contains es e)
+    recorded_above f n ms node = recorded_contains (event_of f n at) es (kept (event_of f n at) (above_event f n ms node).recorded)
+
+    recorded_behind : ExecutesBehind (λ n u e. Contains es e)
+    recorded_behind x u v e r Δ one h f n ms node = recorded_contains (event_of f n h.indices) es (kept (event_of f n h.indices) (site_event x u v h f n ms node).recorded)
+
+    held_of : (ρ : Indices) (c : Atom) (route : Tree) → HoldsBy g (λ n u e. Contains es e) l ρ c route → IsHeld g es ρ c
+    held_of ρ (RightEvent inj f ms) route h = h
+    held_of ρ (RightTerm t) route h = h
+
+    pub entry_met : (entry : Tree) → HasNamedAtoms s.declarations q → IsEntry s q p entry → IsMet g q es left
+    entry_met entry o z =
+        let r = entry_met_by (λ n u e. Contains es e) recorded_above recorded_behind entry o z in
+        record {
+          others = values_here g l (witnesses_of entry);
+          are_values = r.are_values;
+          hold = λ n c k. held_of (query_values q left (values_here g l (witnesses_of entry))) c (item_at (routes_of entry) n) (r.hold n c k);
+        }

@@ -70,7 +70,7 @@ has_mapped x [] u h = absurd h
 has_mapped x (w ∷ us) u (inl h) = inl (ap (New_at x) h)
 has_mapped x (w ∷ us) u (inr h) = inr (has_mapped x us u h)
 
-is_choice : (g : Setting) (x : ℕ) (ps w : List ℕ) → AreBelowParameters g.interpretation ps w → Has (choices_of g x ps) (New_at x w)
+pub is_choice : (g : Setting) (x : ℕ) (ps w : List ℕ) → AreBelowParameters g.interpretation ps w → Has (choices_of g x ps) (New_at x w)
 is_choice g x ps w h = has_mapped x (tuples_below (map g.interpretation.parameter_value ps)) w (within_has w (map g.interpretation.parameter_value ps) (within_parameters g.interpretation ps w h))
 
 -- equal values stand at one tuple
@@ -184,6 +184,12 @@ module _ (ds : List Declaration) (i : Interpretation) (m : Mode) (a : Adversary)
       All-from_recursion (λ c. Contains (cells g m a game) (c, i.type_size type)) (map (New_at x) tuples)
       (each_map_in (λ c. Contains (cells g m a game) (c, i.type_size type)) (New_at x) tuples
       (λ u h. choice_contained ds i game (is_variable game) fine (restrictions ds game typed) m a site.above x type site.one site.two u stands (ap is_some first) h))
+
+  -- in the words of the variable's first definition
+  pub choices_listed : All (λ c. Contains (cells g m a game) (c, i.type_size type)) (choices_of g x V.parameters)
+  choices_listed =
+      subst (λ ps. All (λ c. Contains (cells g m a game) (c, i.type_size type)) (choices_of g x ps)) (sym (parameters_there ds game well stands V first))
+      (subst (λ ns. All (λ c. Contains (cells g m a game) (c, i.type_size type)) (map (New_at x) (tuples_below ns))) (sym (bounds_of i rs)) listed)
 
   counted : length (map (New_at x) tuples) ≡ copies i (parameters_of rs)
   counted = length-map tuples (New_at x) ∙ length_tuples i rs

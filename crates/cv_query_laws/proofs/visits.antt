@@ -1,0 +1,4 @@
+pub mod Above
+pub mod Assigned
+pub mod Positions
+pub mod OneBody
