@@ -5,7 +5,7 @@ use Rattle.cv_syntax.specs.declared.work.File.{File}
 use Rattle.cv_syntax_trees.specs.Declarations.{Declaration}
 use Rattle.cv_syntax_trees.specs.Tree.{Tree}
 use Rattle.cv_accept.specs.Accepted.{Content, most_bytes, most_pool, read_of}
-use Rattle.cv_accept_laws.proofs.Ready.{file_of}
+use Rattle.cv_sequences.proofs.files.Ready.{file_of}
 use Rattle.cv_context.specs.declared.products.shape.Shape.{Shape as ShapeInCode}
 use Rattle.cv_context.specs.products.Shapes.{Shape, shape_of}
 use Rattle.cv_context.specs.products.ShapesInCode.{shape_in}

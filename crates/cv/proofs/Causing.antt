@@ -40,15 +40,15 @@ use Rattle.cv_scope_rules.specs.Standing.{at_root}
 use Rattle.cv_scope_rules.proofs.First.{finds_first, scoped_where_none}
 use Rattle.cv_group.specs.declared.fault.GroupFault.{GroupFault}
 use Rattle.cv_group.specs.Refusals.{refused_by}
-use Rattle.cv_group.specs.rules.Symbols.{symbols_of}
-use Rattle.cv_group.specs.rules.Faults.{GroupRule, equivalences_in}
-use Rattle.cv_group.proofs.rules.Deciding.{accepted_more as all_accepted, first_refused as first_group_refused}
+use Rattle.cv_group_rules.specs.Symbols.{symbols_of}
+use Rattle.cv_group_rules.specs.Faults.{GroupRule, equivalences_in}
+use Rattle.cv_group_rules.proofs.Deciding.{accepted_more as all_accepted, first_refused as first_group_refused}
 use Rattle.cv_meaning.specs.Queries.{queries_in}
 use Rattle.cv_query_form.proofs.First.{finds_first_law as first_refused_is_first}
 use Rattle.cv_accept.specs.declared.error.FileError.{FileError}
 use Rattle.cv_accept.specs.declared.error.FileError.TheVariants as fault
 use Rattle.cv_script.specs.reader.Scripts.{items}
-use Rattle.cv_accept.specs.Accepted.{Content, IsFull, Refuses, asks_unbuilt, block_by, block_of, content_of, group_fault, of_block, of_form, of_groups, of_parsed, of_queries, of_scopes, of_script, of_tokens, of_types, query_fault, read_of, scope_fault, stops_at_prime, there, type_fault, with_pairs}
+use Rattle.cv_accept.specs.Accepted.{Content, IsFull, Refuses, asks_unbuilt, block_by, block_of, content_of, group_fault, of_block, of_form, of_groups, of_parsed, of_queries, of_scopes, of_script, of_tokens, of_types, query_fault, read_of, scope_fault, there, type_fault}
 use Rattle.cv_accept.specs.Places.{nodes_before}
 use Rattle.cv_accept.proofs.Places.{behind_none, behind_some}
 use Rattle.cv_report.specs.declared.report.Cause.TheVariants.{Moves, Stuck}
@@ -57,7 +57,7 @@ use Rattle.cv_report.specs.declared.report.Command.TheVariants as command
 use Rattle.cv_report.specs.declared.report.Report.{Report}
 use Rattle.cv_report.specs.declared.report.Status.TheVariants as status
 use Rattle.cv_syntax.specs.declared.work.File.{File}
-use Rattle.cv.specs.Causes.{ComesFrom, HasAllSteps, HasCertificate, HasGroupFault, HasNoScript, HasOpenQuery, HasQueryFault, HasScopeFault, HasStep, HasStop, HasTypeFault, LeavesOpen, OfTokens, Outside, PassesLimit, StopsUnbuilt, block_signs}
+use Rattle.cv.specs.Causes.{ComesFrom, HasAllSteps, HasCertificate, HasGroupFault, HasNoScript, HasOpenQuery, HasQueryFault, HasScopeFault, HasStep, HasStop, HasTypeFault, LeavesOpen, OfTokens, Outside, PassesLimit, block_signs}
 use Rattle.cv.specs.Causes as cause
 use Rattle.cv.specs.Faults.{parse_ended, status_of as ended_by}
 use Rattle.cv.specs.Words.{AreTold}
@@ -157,14 +157,10 @@ dead_block ts k (Some range) e =
     let h = no_script k (tree_read built_script_row (signs_of ts).names ts first range.1) e in
     (range, refl, dead_end 0 0 first signs k (read_in_room built_script_row 0 0 first signs ∙ ap (in_room 0 0) h))
 
-prime_rank : (b : Bool) (k : ℕ) → 2 ≤ rank (if b then fault.Unbuilt else fault.Script k)
-prime_rank true k = omega arith
-prime_rank false k = omega arith
-
-block_rank : (ts : List Token) (e : ScriptError) → 2 ≤ rank (with_pairs ts (of_block e))
-block_rank ts (script.Script k) = prime_rank (stops_at_prime ts k) k
-block_rank ts (script.Unbuilt k) = omega arith
-block_rank ts (script.Build b) = omega arith
+block_rank : (e : ScriptError) → 2 ≤ rank (of_block e)
+block_rank (script.Script k) = omega arith
+block_rank (script.Unbuilt k) = omega arith
+block_rank (script.Build b) = omega arith
 
 -- a block with a certificate that isn't built, and one without
 
@@ -178,39 +174,27 @@ past_form ts p b false x m e = e
 
 script_rank : (ts : List Token) (p : Parsed) (r : Result (Option Tree) ScriptError) (x : FileError) → of_script ts p r ≡ Err x → 2 ≤ rank x
 script_rank ts p (Ok b) x e = let r = form_rank ts p b (asks_unbuilt p.declarations (option_map items b)) x e in omega arith
-script_rank ts p (Err y) x e = let s : with_pairs ts (of_block y) ≡ x = cc in subst (λ z. 2 ≤ rank z) s (block_rank ts y)
+script_rank ts p (Err y) x e = let s : of_block y ≡ x = cc in subst (λ z. 2 ≤ rank z) s (block_rank y)
 
 -- the fault of a block is neither of types, of scope nor of queries
-prime_only : (b : Bool) (k : ℕ) (x : FileError) → 3 ≤ rank x → rank x ≤ 6 → (if b then fault.Unbuilt else fault.Script k) ≡ x → ⊥
-prime_only true k x l m e = let i = subst (λ y. 7 ≤ rank y) e (omega arith) in omega arith
-prime_only false k x l m e = let i = subst (λ y. rank y ≤ 2) e (omega arith) in omega arith
-
-block_only : (ts : List Token) (y : ScriptError) (x : FileError) → 3 ≤ rank x → rank x ≤ 6 → with_pairs ts (of_block y) ≡ x → ⊥
-block_only ts (script.Script k) x l m e = prime_only (stops_at_prime ts k) k x l m e
-block_only ts (script.Unbuilt k) x l m e = let i = subst (λ y. 7 ≤ rank y) e (omega arith) in omega arith
-block_only ts (script.Build b) x l m e = let i = subst (λ y. 7 ≤ rank y) e (omega arith) in omega arith
+block_only : (y : ScriptError) (x : FileError) → 3 ≤ rank x → rank x ≤ 6 → of_block y ≡ x → ⊥
+block_only (script.Script k) x l m e = let i = subst (λ y. rank y ≤ 2) e (omega arith) in omega arith
+block_only (script.Unbuilt k) x l m e = let i = subst (λ y. 7 ≤ rank y) e (omega arith) in omega arith
+block_only (script.Build b) x l m e = let i = subst (λ y. 7 ≤ rank y) e (omega arith) in omega arith
 
 past_script : (ts : List Token) (p : Parsed) (r : Result (Option Tree) ScriptError) (x : FileError) → 3 ≤ rank x → rank x ≤ 6 → of_script ts p r ≡ Err x → (block : Option Tree) × (r ≡ Ok block) × (of_types (content_of ts p block) p (type_fault p) ≡ Err x)
 past_script ts p (Ok b) x l m e = (b, refl, past_form ts p b (asks_unbuilt p.declarations (option_map items b)) x m e)
-past_script ts p (Err y) x l m e = absurd (block_only ts y x l m (cc))
+past_script ts p (Err y) x l m e = absurd (block_only y x l m (cc))
 
-prime_script : (b : Bool) (j k : ℕ) → (if b then fault.Unbuilt else fault.Script j) ≡ fault.Script k → j ≡ k
-prime_script true j k e = absurd (cc)
-prime_script false j k e = cc
+by_script : (y : ScriptError) (k : ℕ) → of_block y ≡ fault.Script k → y ≡ script.Script k
+by_script (script.Script j) k e = cc
+by_script (script.Unbuilt j) k e = absurd (cc)
+by_script (script.Build b) k e = absurd (cc)
 
-by_script : (ts : List Token) (y : ScriptError) (k : ℕ) → with_pairs ts (of_block y) ≡ fault.Script k → y ≡ script.Script k
-by_script ts (script.Script j) k e = ap script.Script (prime_script (stops_at_prime ts j) j k e)
-by_script ts (script.Unbuilt j) k e = absurd (cc)
-by_script ts (script.Build b) k e = absurd (cc)
-
-prime_unbuilt : (b : Bool) (j : ℕ) → (if b then fault.Unbuilt else fault.Script j) ≡ fault.Unbuilt → b ≡ true
-prime_unbuilt true j e = refl
-prime_unbuilt false j e = absurd (cc)
-
-by_unbuilt : (ts : List Token) (y : ScriptError) → with_pairs ts (of_block y) ≡ fault.Unbuilt → (token : ℕ) × ((y ≡ script.Unbuilt token) ⊎ ((y ≡ script.Script token) × (stops_at_prime ts token ≡ true)))
-by_unbuilt ts (script.Script j) e = (j, inr (refl, prime_unbuilt (stops_at_prime ts j) j e))
-by_unbuilt ts (script.Unbuilt j) e = (j, inl refl)
-by_unbuilt ts (script.Build b) e = absurd (cc)
+by_unbuilt : (y : ScriptError) → of_block y ≡ fault.Unbuilt → (token : ℕ) × (y ≡ script.Unbuilt token)
+by_unbuilt (script.Script j) e = absurd (cc)
+by_unbuilt (script.Unbuilt j) e = (j, refl)
+by_unbuilt (script.Build b) e = absurd (cc)
 
 by_parsed : (ts : List Token) (r : Result Parsed ParseError) (x : ParseError) → of_parsed ts r ≡ Err (fault.Parse x) → r ≡ Err x
 by_parsed ts (Ok p) x e = absurd (let r = script_rank ts p (block_of ts p) (fault.Parse x) e in omega arith)
@@ -302,10 +286,10 @@ module _ (ts : List Token) (p : Parsed) (e : parsed most_pool (signs_of ts).sign
     where
       go : (r : Result (Option Tree) ScriptError) → block_of ts p ≡ r → of_script ts p r ≡ Err (fault.Script k) → HasNoScript ts k
       go (Ok b) n j = absurd (let r = form_rank ts p b (asks_unbuilt p.declarations (option_map items b)) (fault.Script k) j in omega arith)
-      go (Err y) n j = let b = dead_block ts k p.script (n ∙ ap Err (by_script ts y k (cc))) in record {
+      go (Err y) n j = let b = dead_block ts k p.script (n ∙ ap Err (by_script y k (cc))) in record {
         said = p;
         says = said_is_saying most_pool (signs_of ts).signs p e;
-        refused = n ∙ ap Err (by_script ts y k (cc));
+        refused = n ∙ ap Err (by_script y k (cc));
         range = b.0;
         there = b.1;
         dead = b.2;
@@ -319,10 +303,6 @@ module _ (ts : List Token) (p : Parsed) (e : parsed most_pool (signs_of ts).sign
       let v = past_groups (content_of ts p b) p (group_fault p) fault.Unbuilt (omega arith) u.1 in
       absurd (queries_are_built (content_of ts p b) p (query_fault p) v.1)
 
-  stopped : (y : ScriptError) (k : ℕ) → block_of ts p ≡ Err y → (y ≡ script.Unbuilt k) ⊎ ((y ≡ script.Script k) × (stops_at_prime ts k ≡ true)) → StopsUnbuilt ts p k
-  stopped y k n (inl i) = inl (n ∙ ap Err i)
-  stopped y k n (inr i) = inr (n ∙ ap Err i.0, i.1)
-
   unbuilt_cause : of_script ts p (block_of ts p) ≡ Err fault.Unbuilt → HasStep ts ⊎ HasCertificate ts
   unbuilt_cause i = go (block_of ts p) refl i
     where
@@ -335,8 +315,8 @@ module _ (ts : List Token) (p : Parsed) (e : parsed most_pool (signs_of ts).sign
         unbuilt = form_cause b (asks_unbuilt p.declarations (option_map items b)) j;
       })
       go (Err y) n j =
-          let f = by_unbuilt ts y (cc) in
-          inl (record { said = p; says = said_is_saying most_pool (signs_of ts).signs p e; token = f.0; refused = stopped y f.0 n f.1 })
+          let f = by_unbuilt y (cc) in
+          inl (record { said = p; says = said_is_saying most_pool (signs_of ts).signs p e; token = f.0; refused = n ∙ ap Err f.1 })
 
 -- a refusal of what tokens say comes from the tokens of the bytes
 

@@ -51,7 +51,7 @@ use Rattle.cv.specs.Steps.{HasCloseSteps, IsCloseStep, game_along}
 use Rattle.cv.specs.Values.{context_of}
 use Rattle.cv.specs.Strategy.{AcceptsAll, EndsBy, EndsWell, EndsWithout, HasFile, HoldsUpTo, IsExpected, IsGood, IsSound, Judged, Proceeds, SpeaksOfFile, declared_in, ends_under, file_in, game_in, is_games, moves_in, steps_in}
 use Rattle.cv.specs.Words.{AreTold, bytes_asked, command_of, text_asked}
-use Rattle.cv_words.specs.Forms.{Asked, Games, Prove, Sample}
+use Rattle.cv_outside.specs.words.Forms.{Asked, Games, Prove, Sample}
 use Rattle.cv.proofs.Causing.{where_told}
 use Rattle.cv.proofs.Commands.{Speaks, speaks_under}
 use Rattle.cv_follow.specs.Fillings.{StandsBy, StandsFor, has_word}

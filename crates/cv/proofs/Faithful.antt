@@ -47,10 +47,10 @@ use Rattle.cv.specs.Strategy.{TakesSteps, declared_in, file_in, game_in, steps_i
 use Rattle.cv.specs.Values.{Contexts, advantage_of, advantages_in, context_of}
 use Rattle.cv_sequences.specs.secrets.Sums.{summed_by}
 use Rattle.cv_sequences.proofs.secrets.Sums.{plain, put}
-use Rattle.cv_accept_laws.proofs.kernel.rules.Sound.{sound}
+use Rattle.cv_sequences.proofs.files.kernel.rules.Sound.{sound}
 use Rattle.cv_follow.proofs.StepKinds.{Kind, closure, kind_of, passage, reduction}
 use Rattle.cv_follow.proofs.StepKinds as kind
-use Rattle.cv_accept_laws.proofs.Ready.{file_of, taped, valued}
+use Rattle.cv_sequences.proofs.files.Ready.{file_of, taped, valued}
 use Rattle.cv.proofs.Naming.{named_in, same_names}
 use Rattle.cv.proofs.Taped.{HaveTapedContexts, HaveValues, taped_prices}
 

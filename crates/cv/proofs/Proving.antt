@@ -66,7 +66,7 @@ use Rattle.cv_follow.proofs.Closings.{nothing_more, sum_put}
 use Rattle.cv.proofs.Taped.{HaveTapedContexts, HaveValues, taped_prices}
 use Rattle.cv.proofs.Faithful.{HasLinks, StandsIn, contexts_along, links_of, prices, contexts_taken, stands_in, summed_on}
 use Rattle.cv_follow.proofs.StepKinds.{IsClosure, closure}
-use Rattle.cv_accept_laws.proofs.Ready.{events_valued, file, file_of, taped, valued as valued_file}
+use Rattle.cv_sequences.proofs.files.Ready.{events_valued, file, file_of, taped, valued as valued_file}
 
 -- what laws say of certificates that are accepted
 

@@ -7,7 +7,7 @@ use Rattle.cv_outside.specs.Told.{Files, bytes_of}
 use Rattle.cv_outside.specs.declared.shelf.FetchError.{FetchError}
 use Rattle.cv_outside.specs.declared.shelf.FetchError.TheVariants as fetch
 use Rattle.cv_accept.specs.Accepted.{most_bytes}
-use Rattle.cv_words.specs.Forms.{Text}
+use Rattle.cv_outside.specs.words.Forms.{Text}
 use Rattle.cv.specs.Words.{AreTold, bytes_under}
 
 abbrev Fetched : Type 0

@@ -8,7 +8,7 @@ use Rattle.cv_syntax_trees.specs.Declarations.{Declaration}
 use Rattle.cv_syntax_trees.specs.Tree.{Tree}
 use Rattle.cv_syntax.specs.PoolTrees.{tree_at}
 use Rattle.cv_accept.specs.Accepted.{Content, read_of, most_bytes}
-use Rattle.cv_accept_laws.proofs.Ready.{file_of, taped, valued}
+use Rattle.cv_sequences.proofs.files.Ready.{file_of, taped, valued}
 use Rattle.cv_derive_laws.specs.stores.Soundness.{DerivationsHold, DerivedBodiesAreUnreached}
 use Rattle.cv_steps.proofs.values.Adding.{factor_positive}
 use Rattle.cv_follow.specs.Scripts.{Told, entry_in, entry_of, known_to}

@@ -6,7 +6,7 @@ use Rattle.cv_syntax_trees.specs.Declarations.{Declaration}
 use Rattle.cv_syntax_trees.specs.Tree.{Tree, Empty, Node}
 use Rattle.cv_accept.specs.Accepted.{Content, most_bytes, read_of}
 use Rattle.cv_accept.proofs.Readings.{accepted}
-use Rattle.cv_accept_laws.proofs.Ready.{file_of, valued}
+use Rattle.cv_sequences.proofs.files.Ready.{file_of, valued}
 use Rattle.cv_steps.specs.values.Values.{Advantages}
 use Rattle.cv_derive_laws.specs.stores.Soundness.{DerivationsHold, DerivedBodiesAreUnreached}
 use Rattle.cv_follow.specs.Scripts.{known_to}

@@ -12,8 +12,8 @@ use Rattle.cv.specs.Causes.{ComesFrom, Outside}
 use Rattle.cv.specs.Causes as cause
 use Rattle.cv.specs.Strategy.{IsSound}
 use Rattle.cv.specs.Words.{SaysOfWords, command_of}
-use Rattle.cv_words.specs.Forms.{Text}
-use Rattle.cv_words.specs.Words.{command_read}
+use Rattle.cv_outside.specs.words.Forms.{Text}
+use Rattle.cv_outside.specs.words.Words.{command_read}
 use Rattle.cv.specs.Games.{HasCloseGames}
 use Rattle.cv.specs.Calls.{HasBoundedCalls}
 use Rattle.cv.specs.Steps.{HasCloseSteps}

@@ -26,16 +26,16 @@ use Rattle.cv_scope_rules.specs.Refusals.{refusal}
 use Rattle.cv_scope_rules.specs.Scope.{IsFirstFault, IsScoped}
 use Rattle.cv_group.specs.declared.fault.GroupFault.{GroupFault}
 use Rattle.cv_group.specs.Refusals.{refused_by}
-use Rattle.cv_group.specs.rules.Symbols.{symbols_of}
-use Rattle.cv_group.specs.rules.Faults.{AreAccepted, GroupRule, IsFirstGroupFault, equivalences_in}
+use Rattle.cv_group_rules.specs.Symbols.{symbols_of}
+use Rattle.cv_group_rules.specs.Faults.{AreAccepted, GroupRule, IsFirstGroupFault, equivalences_in}
 use Rattle.cv_meaning.specs.Queries.{queries_in}
 use Rattle.cv_query_form.specs.Rules.{IsFirstRefused}
 use Rattle.cv_syntax_trees.specs.Tree.{Tree}
 use Rattle.cv_syntax.specs.declared.work.File.{File}
-use Rattle.cv_accept.specs.Accepted.{IsFull, asks_unbuilt, block_of, stops_at_prime, most_bytes, most_pool}
+use Rattle.cv_accept.specs.Accepted.{IsFull, asks_unbuilt, block_of, most_bytes, most_pool}
 use Rattle.cv_script.specs.reader.Scripts.{items}
 use Rattle.cv_accept.specs.Places.{nodes_before}
-use Rattle.cv_words.specs.Forms.{Asked}
+use Rattle.cv_outside.specs.words.Forms.{Asked}
 use Rattle.cv_report.specs.declared.report.FileFault.TheVariants.{Lex, Parse, Script, Types, Scope, Group, Query}
 use Rattle.cv_report.specs.declared.report.Cause.TheVariants.{Moves, NoClose, Stuck}
 use Rattle.cv_report.specs.declared.report.Command.TheVariants as command
@@ -117,17 +117,12 @@ pub record HasQueryFault (tokens : List Token) (k : ℕ) : Type 0 where
   pub groups : AreAccepted (symbols_of said.declarations) (equivalences_in said.declarations)
   pub first : IsFirstRefused said.game (queries_in said.declarations) k
 
--- reading a proof block stops at this token: a step begins there that isn't built, or it is the mark of a second copy
-abbrev pub StopsUnbuilt : List Token → Parsed → (token : ℕ) → Type 0
-StopsUnbuilt tokens said token =
-    (block_of tokens said ≡ Err (block.Unbuilt token)) ⊎ ((block_of tokens said ≡ Err (block.Script token)) × (stops_at_prime tokens token ≡ true))
-
 -- The tokens are those of a file whose proof block has a step that has no rule, behind steps that have one.
 pub record HasStep (tokens : List Token) : Type 0 where
   pub said : Parsed
   pub says : Says most_pool (signs_of tokens).signs said
   pub token : ℕ
-  pub refused : StopsUnbuilt tokens said token
+  pub refused : block_of tokens said ≡ Err (block.Unbuilt token)
 
 -- They are those of a file whose proof block closes a query by a certificate that isn't built.
 pub record HasCertificate (tokens : List Token) : Type 0 where

@@ -7,9 +7,9 @@ use Rattle.cv_report.specs.declared.report.Command.{Command}
 use Rattle.cv_report.specs.declared.report.Command.TheVariants as command
 use Rattle.cv_report.specs.declared.report.Report.{Report}
 use Rattle.cv_report.specs.declared.report.Status.TheVariants as status
-use Rattle.cv_words.specs.sample.Samples.{file_of}
-use Rattle.cv_words.specs.Forms.{Asked, Games, IsForm, Prove, Sample, Text}
-use Rattle.cv_words.specs.Words.{command_read}
+use Rattle.cv_outside.specs.words.sample.Samples.{file_of}
+use Rattle.cv_outside.specs.words.Forms.{Asked, Games, IsForm, Prove, Sample, Text}
+use Rattle.cv_outside.specs.words.Words.{command_read}
 
 -- what the words of the command line ask for
 abbrev pub asked_by : List (String Global) → Option Asked

@@ -1,14 +1,14 @@
 ghost use Rattle.std.specs.Prelude.{◌≡◌, ◌<◌, ◌≤◌, IfOk, IfSome, IsErrOf, Some, length};
 ghost use Rattle.cv_outside.specs.Causes.{Rose};
-ghost use Rattle.cv_words.specs.sample.Samples.{file_of as sample_of};
-ghost use Rattle.cv_words.specs.Words.{asked_of};
+ghost use Rattle.cv_outside.specs.words.sample.Samples.{file_of as sample_of};
+ghost use Rattle.cv_outside.specs.words.Words.{asked_of};
 ghost use Rattle.cv.specs.Strategy.{ends_under, is_games as games, moves_in, shown};
 ghost use Rattle.cv.specs.Words.{AreTold, AsksOnly, bytes_asked, command_of as command_by, file_asked, text_asked as text_by};
 
+use cv_outside::words::Request;
+use cv_outside::words::sample::file_of;
 use cv_outside::{FetchError, Shelf};
 use cv_report::{Cause, Command, Status};
-use cv_words::Request;
-use cv_words::sample::file_of;
 use std::alloc::Global;
 
 /// The most bytes of a file.

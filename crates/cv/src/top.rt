@@ -3,7 +3,7 @@ ghost use Rattle.cv_outside.specs.Causes.{NoFault};
 ghost use Rattle.cv_report.specs.Text.{IsLive};
 ghost use Rattle.cv_report.specs.outcome.Refused.{SaysNothing};
 ghost use Rattle.cv_report.specs.outcome.Written.{EndsBy, IsWritten};
-ghost use Rattle.cv_words.specs.Words.{asked_of};
+ghost use Rattle.cv_outside.specs.words.Words.{asked_of};
 ghost use Rattle.cv.specs.Answers.{Answers, IsComplete};
 ghost use Rattle.cv.specs.Causes.{ComesFrom, outside_of};
 ghost use Rattle.cv.specs.Games.{HasCloseGames};
@@ -14,11 +14,11 @@ ghost use Rattle.cv.specs.Words.{AsksOnly, SaysOfWords, asked_by, bytes_asked, c
 
 use crate::asked::{command_of, source, text_asked};
 use crate::decide::judge;
+use cv_outside::words::{Request, command, plain_forms_are_read};
 use cv_outside::{Shelf, Sink};
 use cv_report::outcome::{Outcome, fetch_status, refused, write};
 use cv_report::{Command, Report, Status};
 use cv_syntax::Work;
-use cv_words::{Request, command, plain_forms_are_read};
 use std::alloc::Global;
 
 /// The most nodes of the pool.

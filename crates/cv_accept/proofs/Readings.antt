@@ -35,9 +35,9 @@ use Rattle.cv_scope_rules.proofs.First.{none_where_scoped, scoped_where_none}
 use Rattle.cv_group.specs.declared.fault.GroupFault.{GroupFault}
 use Rattle.cv_group.specs.declared.fault.GroupFault.TheVariants as group
 use Rattle.cv_group.specs.Refusals.{IsRefusalAt}
-use Rattle.cv_group.specs.rules.Symbols.{symbols_of}
-use Rattle.cv_group.specs.rules.Faults.{GroupRule, equivalences_in}
-use Rattle.cv_group.proofs.rules.Deciding.{accepted_more as all-accepted, none_where_all as none-refused}
+use Rattle.cv_group_rules.specs.Symbols.{symbols_of}
+use Rattle.cv_group_rules.specs.Faults.{GroupRule, equivalences_in}
+use Rattle.cv_group_rules.proofs.Deciding.{accepted_more as all-accepted, none_where_all as none-refused}
 use Rattle.cv_query_form.specs.declared.fault.QueryFault.{QueryFault}
 use Rattle.cv_query_form.specs.declared.fault.QueryFault.TheVariants as query
 use Rattle.cv_meaning.specs.Queries.{queries_in}
@@ -46,7 +46,7 @@ use Rattle.cv_query_form.proofs.First.{asked_where_none, none_where_asked}
 use Rattle.cv_parse_laws.proofs.Games.{well_formed}
 use Rattle.cv_accept.specs.declared.error.FileError.{FileError}
 use Rattle.cv_accept.specs.declared.error.FileError.TheVariants.{Lex, Parse, Script, Types, Scope, Group, Query, Room, Unbuilt, OutOfMemory}
-use Rattle.cv_accept.specs.Accepted.{Content, IsFile, IsFull, Refuses, asks_unbuilt, block_of, content_of, group_fault, of_block, of_form, of_groups, of_parsed, of_queries, of_scopes, of_script, of_tokens, of_types, query_fault, read_of, scope_fault, stops_at_prime, type_fault, with_pairs}
+use Rattle.cv_accept.specs.Accepted.{Content, IsFile, IsFull, Refuses, asks_unbuilt, block_of, content_of, group_fault, of_block, of_form, of_groups, of_parsed, of_queries, of_scopes, of_script, of_tokens, of_types, query_fault, read_of, scope_fault, type_fault}
 use Rattle.cv_accept.specs.Faults.{IsBlock, IsUnbuiltFault, of_lex, of_parse, of_group, of_query, of_scope, of_type}
 use Rattle.cv_accept.specs.Places.{nodes_before}
 use Rattle.cv_accept.proofs.Places.{behind_none, none_behind}
@@ -94,15 +94,10 @@ by_parsing : (limit : ℕ) (bs : List ℕ) (ts : List Token) (p : Parsed) → to
 by_parsing limit bs ts p t h = by_tokens limit bs ts t ∙ ap (of_parsed ts) h
 
 module _ (limit live : ℕ) (bs : List ℕ) (ts : List Token) (p : Parsed) (t : tokens_of bs ≡ Ok ts) (h : parsed limit (signs_of ts).signs ≡ Ok p) where
-  by_error : (x : ScriptError) → block_of ts p ≡ Err x → read_of limit bs ≡ Err (with_pairs ts (of_block x))
+  by_error : (x : ScriptError) → block_of ts p ≡ Err x → read_of limit bs ≡ Err (of_block x)
   by_error x e = by_parsing limit bs ts p t h ∙ ap (of_script ts p) e
 
-  -- a block that isn't read, at a prime or not
-  refused_or : (b : Bool) (k : ℕ) → read_of limit bs ≡ Err (if b then Unbuilt else Script k) → Refuses limit bs (if b then Unbuilt else Script k)
-  refused_or true k e = e
-  refused_or false k e = e
-
-  pub block_refuses : (trees : List KindTree) (e : FileError) → live ≤ file_nodes p.declarations p.game → IsBlock limit live (block_of ts p) trees (Err e) → Refuses limit bs (with_pairs ts e)
+  pub block_refuses : (trees : List KindTree) (e : FileError) → live ≤ file_nodes p.declarations p.game → IsBlock limit live (block_of ts p) trees (Err e) → Refuses limit bs e
   block_refuses trees OutOfMemory l w = tt
   block_refuses trees (Room need) l w = record {
     tokens = ts;
@@ -114,14 +109,14 @@ module _ (limit live : ℕ) (bs : List ℕ) (ts : List Token) (p : Parsed) (t : 
     asked = w.2;
     over = (let m : limit < live + need = w.3 in omega arith);
   }
-  block_refuses trees (Lex x) l w = by_error w.0 w.1 ∙ ap (λ y. Err (with_pairs ts y)) (sym w.2)
-  block_refuses trees (Parse x) l w = by_error w.0 w.1 ∙ ap (λ y. Err (with_pairs ts y)) (sym w.2)
-  block_refuses trees (Script x) l w = refused_or (stops_at_prime ts x) x (by_error w.0 w.1 ∙ ap (λ y. Err (with_pairs ts y)) (sym w.2))
-  block_refuses trees (Types x) l w = by_error w.0 w.1 ∙ ap (λ y. Err (with_pairs ts y)) (sym w.2)
-  block_refuses trees (Scope x) l w = by_error w.0 w.1 ∙ ap (λ y. Err (with_pairs ts y)) (sym w.2)
-  block_refuses trees (Group k x) l w = by_error w.0 w.1 ∙ ap (λ y. Err (with_pairs ts y)) (sym w.2)
-  block_refuses trees (Query x) l w = by_error w.0 w.1 ∙ ap (λ y. Err (with_pairs ts y)) (sym w.2)
-  block_refuses trees Unbuilt l w = by_error w.0 w.1 ∙ ap (λ y. Err (with_pairs ts y)) (sym w.2)
+  block_refuses trees (Lex x) l w = by_error w.0 w.1 ∙ ap (λ y. Err y) (sym w.2)
+  block_refuses trees (Parse x) l w = by_error w.0 w.1 ∙ ap (λ y. Err y) (sym w.2)
+  block_refuses trees (Script x) l w = by_error w.0 w.1 ∙ ap (λ y. Err y) (sym w.2)
+  block_refuses trees (Types x) l w = by_error w.0 w.1 ∙ ap (λ y. Err y) (sym w.2)
+  block_refuses trees (Scope x) l w = by_error w.0 w.1 ∙ ap (λ y. Err y) (sym w.2)
+  block_refuses trees (Group k x) l w = by_error w.0 w.1 ∙ ap (λ y. Err y) (sym w.2)
+  block_refuses trees (Query x) l w = by_error w.0 w.1 ∙ ap (λ y. Err y) (sym w.2)
+  block_refuses trees Unbuilt l w = by_error w.0 w.1 ∙ ap (λ y. Err y) (sym w.2)
 
   -- a block that is read
   pub by_block : (block : Option Tree) → block_of ts p ≡ Ok block → asks_unbuilt p.declarations (option_map items block) ≡ false → read_of limit bs ≡ of_types (content_of ts p block) p (type_fault p)

@@ -1,13 +1,9 @@
 -- Files: what they hold, and which bytes are one.
-use Rattle.std.specs.Prelude.{◌≡◌, ℕ, ◌+◌, ◌<◌, min, nat_lt, Bool, true, false, ◌&&◌, if◌then◌else◌, List, length, Option, Some, None, option_map, Result, Ok, Err}
+use Rattle.std.specs.Prelude.{◌≡◌, ℕ, ◌+◌, ◌<◌, min, Bool, true, false, List, length, Option, Some, None, option_map, Result, Ok, Err}
 use Rattle.cv_lex.specs.Lexis.{Token, Lexed, tokens_of}
-use Rattle.cv_lex.specs.View.{token_at}
 use Rattle.cv_lex.specs.declared.LexError.{LexError}
-use Rattle.cv_parse_notation.specs.declared.sign.Mark.{Mark}
-use Rattle.cv_parse_notation.specs.declared.sign.Mark.TheVariants as mark
 use Rattle.cv_parse_tables.specs.terminals.ScriptSigns.{between, script_signs}
 use Rattle.cv_parse_tables.specs.terminals.Signs.{signs_of}
-use Rattle.cv_parse_tables.specs.spelling.Spelling.{mark_of_text}
 use Rattle.cv_script.specs.declared.reader.error.ScriptError.{ScriptError}
 use Rattle.cv_script.specs.declared.reader.error.ScriptError.TheVariants as script
 use Rattle.cv_script.specs.reader.Scripts.{items}
@@ -27,8 +23,8 @@ use Rattle.cv_scope_rules.specs.declared.fault.Fault.{Fault as ScopeRules}
 use Rattle.cv_scope_rules.specs.Refusals.{refusal as scope_refusal}
 use Rattle.cv_scope_rules.specs.Scope.{IsScoped, first_scope_fault}
 use Rattle.cv_group.specs.Refusals.{refused_by}
-use Rattle.cv_group.specs.rules.Symbols.{symbols_of}
-use Rattle.cv_group.specs.rules.Faults.{AreAccepted, GroupRule, equivalences_in, first_group_fault}
+use Rattle.cv_group_rules.specs.Symbols.{symbols_of}
+use Rattle.cv_group_rules.specs.Faults.{AreAccepted, GroupRule, equivalences_in, first_group_fault}
 use Rattle.cv_query.specs.kinds.Built.{has_unbuilt}
 use Rattle.cv_meaning.specs.Queries.{queries_in}
 use Rattle.cv_query_form.specs.Rules.{AreAsked}
@@ -156,26 +152,13 @@ of_block (script.Script token) = Script token
 of_block (script.Unbuilt token) = Unbuilt
 of_block (script.Build e) = OutOfMemory
 
--- Where reading a block stops at the mark of a second copy, which stands in pairs alone, its step isn't built.
-
-abbrev pub is_prime : Option Mark → Bool
-is_prime (Some mark.Prime) = true
-is_prime m = false
-
-abbrev pub stops_at_prime : List Token → (token : ℕ) → Bool
-stops_at_prime ts k = nat_lt k (length ts) && is_prime (mark_of_text (token_at ts k).text)
-
-abbrev pub with_pairs : List Token → FileError → FileError
-with_pairs ts (Script k) = if stops_at_prime ts k then Unbuilt else Script k
-with_pairs ts e = e
-
 abbrev pub of_form : List Token → Parsed → (block : Option Tree) → (unbuilt : Bool) → Result Content FileError
 of_form ts p block true = Err Unbuilt
 of_form ts p block false = of_types (content_of ts p block) p (type_fault p)
 
 abbrev pub of_script : List Token → Parsed → Result (Option Tree) ScriptError → Result Content FileError
 of_script ts p (Ok block) = of_form ts p block (asks_unbuilt p.declarations (option_map items block))
-of_script ts p (Err e) = Err (with_pairs ts (of_block e))
+of_script ts p (Err e) = Err (of_block e)
 
 abbrev pub of_parsed : List Token → Result Parsed ParseError → Result Content FileError
 of_parsed ts (Ok p) = of_script ts p (block_of ts p)

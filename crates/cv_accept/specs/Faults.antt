@@ -23,7 +23,7 @@ use Rattle.cv_group.specs.declared.fault.GroupFault.{GroupFault}
 use Rattle.cv_group.specs.declared.fault.GroupFault.TheVariants as group
 use Rattle.cv_query_form.specs.declared.fault.QueryFault.{QueryFault}
 use Rattle.cv_query_form.specs.declared.fault.QueryFault.TheVariants as query
-use Rattle.cv_accept.specs.Accepted.{of_block, with_pairs}
+use Rattle.cv_accept.specs.Accepted.{of_block}
 use Rattle.cv_accept.specs.Works.{script_in}
 use Rattle.cv_accept.specs.declared.error.FileError.{FileError}
 use Rattle.cv_accept.specs.declared.error.FileError.TheVariants.{Lex, Parse, Script, Types, Scope, Group, Query, Room, Unbuilt, OutOfMemory}
@@ -65,11 +65,6 @@ IsBlock limit live r trees (Ok v) = (block : Option Tree) × (r ≡ Ok block) ×
 IsBlock limit live r trees (Err OutOfMemory) = Unit {0}
 IsBlock limit live r trees (Err (Room need)) = (block : Tree) × (r ≡ Ok (Some block)) × (need ≡ nodes_of block) × (limit < live + need)
 IsBlock limit live r trees (Err e) = (x : ScriptError) × (r ≡ Err x) × (e ≡ of_block x)
-
--- the same, where pairs aren't built
-abbrev pub IsProofBlock : List Token → (limit live : ℕ) → Result (Option Tree) ScriptError → List KindTree → Result (Option (Vec Step Global)) FileError → Type 0
-IsProofBlock ts limit live r trees (Ok v) = IsBlock limit live r trees (Ok v)
-IsProofBlock ts limit live r trees (Err e) = (x : FileError) × (e ≡ with_pairs ts x) × IsBlock limit live r trees (Err x)
 
 -- a block is refused so for its certificates
 abbrev pub IsUnbuiltFault : (asks : Bool) → FileError → Type 0

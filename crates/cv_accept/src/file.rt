@@ -4,8 +4,8 @@ ghost use Rattle.cv_parse.specs.Declaring.{IsBelow};
 ghost use Rattle.cv_syntax_trees.specs.Tree.{size};
 ghost use Rattle.cv_syntax.specs.PoolTrees.{tree_at};
 ghost use Rattle.cv_syntax.specs.Declarations.{declarations};
-ghost use Rattle.cv_accept.specs.Accepted.{asks_unbuilt, block_by, names_by, stops_at_prime, with_pairs};
-ghost use Rattle.cv_accept.specs.Faults.{IsBlock, IsProofBlock, IsUnbuiltFault};
+ghost use Rattle.cv_accept.specs.Accepted.{asks_unbuilt, block_by, names_by};
+ghost use Rattle.cv_accept.specs.Faults.{IsBlock, IsUnbuiltFault};
 ghost use Rattle.cv_accept.specs.Works.{HasSteps, Reads, block_nodes, content_at, content_nodes, script_in};
 
 use crate::error::FileError;
@@ -14,8 +14,6 @@ use cv_directory::Directory;
 use cv_group::check_all;
 use cv_lex::{Tokens, tokens};
 use cv_parse::file;
-use cv_parse_notation::Mark;
-use cv_parse_tables::spelling::spelled;
 use cv_query::kinds::has_unbuilt;
 use cv_query_form::check as check_queries;
 use cv_script::Step;
@@ -57,7 +55,7 @@ fn read_steps(
     Ok(Some(steps))
 }
 
-/// The same, where there is a proof block.
+/// Reads the proof block of a file, where it has one, as far as its steps are built.
 fn read_block(
     alloc: Global,
     work: &mut Work,
@@ -79,60 +77,6 @@ fn read_block(
     match block {
         None => Ok(None),
         Some(range) => read_steps(alloc, work, tokens, range),
-    }
-}
-
-/// Whether a token is the mark of a second copy.
-fn is_prime(tokens: &Tokens, token: u32) -> bool
-    ensures { result ≡ stops_at_prime tokens.now token }
-{
-    if token >= tokens.len() {
-        return false;
-    }
-    match spelled(tokens.text(token)) {
-        Some(Mark::Prime) => true,
-        _ => false,
-    }
-}
-
-/// Why a file is refused whose block isn't read: where reading stops at a prime the step isn't built.
-fn block_fault(tokens: &Tokens, fault: FileError) -> FileError
-    ensures { result ≡ with_pairs tokens.now fault }
-{
-    match fault {
-        FileError::Script(token) => {
-            if is_prime(tokens, token) {
-                FileError::Unbuilt
-            } else {
-                FileError::Script(token)
-            }
-        }
-        fault => fault,
-    }
-}
-
-/// Reads the proof block of a file, where it has one, as far as its steps are built.
-fn read_proof(
-    alloc: Global,
-    work: &mut Work,
-    tokens: &Tokens,
-    block: Option<(u32, u32)>,
-) -> Result<Option<Vec<Step>>, FileError>
-    requires within { IfSome block (λ b. b.1 < length tokens.now) }
-    requires few { length work.old.names + length tokens.now < 2 ^ 32 }
-    ensures reads { IsProofBlock tokens.now work.old.pool.limit (length work.old.pool.trees)
-        (block_by tokens.now work.old.names block) work.new.pool.trees result }
-    ensures names { OnOk result (work.new.names ≡ names_by tokens.now work.old.names block) }
-    ensures steps { IfOk result (λ v. IfSome v (λ s.
-        HasSteps work.new.pool.limit work.new.pool.trees s.items)) }
-    ensures few { IfOk result (λ v. length work.new.pool.trees
-        ≤ length work.old.pool.trees + block_nodes (script_in work.new.pool.trees v)) }
-    ensures grows { Grows work.old.pool work.new.pool }
-    ensures decls { work.new.decls ≡ work.old.decls }
-{
-    match read_block(alloc, work, tokens, block) {
-        Ok(script) => Ok(script),
-        Err(fault) => Err(block_fault(tokens, fault)),
     }
 }
 
@@ -182,7 +126,7 @@ fn fill(alloc: Global, work: &mut Work, bytes: &[u8]) -> Result<Accepted, FileEr
 {
     let tokens = tokens(alloc, bytes)?;
     let file = file(alloc, work, &tokens)?;
-    let script = read_proof(alloc, work, &tokens, file.script)?;
+    let script = read_block(alloc, work, &tokens, file.script)?;
     check_certificates(alloc, work, &script)?;
     let directory = Directory::of(alloc, &work.pool, &work.decls, file.game.root)?;
     let (nodes, directory) = check_types(alloc, work, &file, directory)?;

@@ -4,7 +4,7 @@ ghost use Rattle.std.specs.Prelude.{◌≡◌, ℕ, List, Ok};
 ghost use Rattle.std.specs.List.{AllByRecursion};
 ghost use Rattle.cv_parse_notation.specs.declared.sign.Sign.{Sign};
 ghost use Rattle.cv_parse.specs.Parsed.{Parsed, parsed};
-ghost use Rattle.cv_group.specs.rules.Faults.{equivalences_in};
+ghost use Rattle.cv_group_rules.specs.Faults.{equivalences_in};
 ghost use Rattle.cv_match_laws.specs.functions.Forms.{HasLeftForm};
 
 /// The left side of each equivalence of a file, a collision among them, has one key, and a body there that begins

@@ -6,8 +6,8 @@ ghost use Rattle.cv_parse_notation.specs.declared.sign.Sign.{Sign};
 ghost use Rattle.cv_parse.specs.Parsed.{Parsed, parsed};
 ghost use Rattle.cv_meaning.specs.contexts.Groups.{Right, side_group};
 ghost use Rattle.cv_scope_rules.specs.typing.Parts.{IsTypedFile};
-ghost use Rattle.cv_group.specs.rules.Faults.{equivalences_in};
-ghost use Rattle.cv_group.specs.rules.Rules.{branches_have_one_index};
+ghost use Rattle.cv_group_rules.specs.Faults.{equivalences_in};
+ghost use Rattle.cv_group_rules.specs.Rules.{branches_have_one_index};
 ghost use Rattle.cv_inline_names_laws.specs.cells.Layout.{IsRightFunction};
 ghost use Rattle.cv_context_files.specs.right_forms.Forms.{HasRightForm};
 

@@ -6,7 +6,7 @@ ghost use Rattle.cv_syntax_trees.specs.Tree.{second};
 ghost use Rattle.cv_meaning.specs.Interpretation.{is_constant_of};
 ghost use Rattle.cv_parse_notation.specs.declared.sign.Sign.{Sign};
 ghost use Rattle.cv_parse.specs.Parsed.{Parsed, parsed};
-ghost use Rattle.cv_group.specs.rules.Faults.{equivalences_in};
+ghost use Rattle.cv_group_rules.specs.Faults.{equivalences_in};
 ghost use Rattle.cv_context_files.specs.right_names.Bindings.{HasFreeNames};
 
 /// In the right side of each equivalence of a file, a collision among them, nothing stands at a name that is bound,

@@ -3,8 +3,8 @@
 ghost use Rattle.std.specs.Prelude.{◌≡◌, None, true};
 ghost use Rattle.cv_syntax_trees.specs.Declarations.{Declaration};
 ghost use Rattle.cv_syntax_trees.specs.Tree.{Tree};
-ghost use Rattle.cv_group.specs.rules.Symbols.{symbols_of};
-ghost use Rattle.cv_group.specs.rules.Faults.{IsAccepted};
+ghost use Rattle.cv_group_rules.specs.Symbols.{symbols_of};
+ghost use Rattle.cv_group_rules.specs.Faults.{IsAccepted};
 ghost use Rattle.cv_scope_rules.specs.Phrases.{IsWellFormed};
 ghost use Rattle.cv_scope_rules.specs.typing.Parts.{IsTypedGame};
 ghost use Rattle.cv_typing_runs.specs.Games.{HasKnownNames};

@@ -7,7 +7,7 @@ use Rattle.cv_syntax_trees.specs.Tree.{Tree, Empty, Node, chain, first, same_tre
 use Rattle.cv_syntax_trees.proofs.Equality.{same_tree_exact}
 use Rattle.cv_meaning.specs.Correspondences.{typed_names}
 use Rattle.cv_meaning.specs.contexts.Groups.{Function, function_of, functions_of}
-use Rattle.cv_group.specs.rules.Rules.{all_agree, functions_agree, same_bound, take_alike}
+use Rattle.cv_group_rules.specs.Rules.{all_agree, functions_agree, same_bound, take_alike}
 use Rattle.cv_scene.specs.Standing.{AreAsMany}
 use Rattle.cv_inline_names_laws.specs.accepted.RightBodies.{are_as_many}
 use Rattle.cv_inline_names_laws.proofs.covered.Functions.{some_is, none_is}

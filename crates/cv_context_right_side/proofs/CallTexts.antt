@@ -8,9 +8,9 @@ use Rattle.cv_meaning.specs.Tapes.{Tape, blank}
 use Rattle.cv_meaning_laws.proofs.Listed.{Has}
 use Rattle.cv_meaning.specs.contexts.Groups.{Group, Left, Right, function_at, functions_of, side_group}
 use Rattle.cv_meaning.specs.contexts.Sides.{Context}
-use Rattle.cv_group.specs.rules.Symbols.{symbols_of}
-use Rattle.cv_group.specs.rules.Faults.{SameShape}
-use Rattle.cv_group.specs.rules.Rules.{all_agree, functions_in, groups_agree, same_bound}
+use Rattle.cv_group_rules.specs.Symbols.{symbols_of}
+use Rattle.cv_group_rules.specs.Faults.{SameShape}
+use Rattle.cv_group_rules.specs.Rules.{all_agree, functions_in, groups_agree, same_bound}
 use Rattle.cv_scope_rules.specs.Phrases.{Inputs, is_oracle_phrase}
 use Rattle.cv_scene.specs.Contexts.{call_terms}
 use Rattle.cv_scene.specs.Reductions.{Reduction, context_of_game, sites}

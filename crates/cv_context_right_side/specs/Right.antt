@@ -6,8 +6,8 @@ use Rattle.cv_syntax_trees.specs.Tree.{Tree, second}
 use Rattle.cv_meaning.specs.Interpretation.{is_constant_of}
 use Rattle.cv_meaning.specs.Tapes.{blank}
 use Rattle.cv_meaning.specs.contexts.Groups.{Right, side_group}
-use Rattle.cv_group.specs.rules.Symbols.{symbols_of}
-use Rattle.cv_group.specs.rules.Faults.{IsAccepted}
+use Rattle.cv_group_rules.specs.Symbols.{symbols_of}
+use Rattle.cv_group_rules.specs.Faults.{IsAccepted}
 use Rattle.cv_scope_rules.specs.Phrases.{IsWellFormedContext, binds_none}
 use Rattle.cv_typing_runs.specs.Games.{HasArguments}
 use Rattle.cv_scene.specs.Apt.{IsAptGame, IsSiteApt}

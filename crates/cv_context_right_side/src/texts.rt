@@ -4,8 +4,8 @@
 ghost use Rattle.std.specs.Prelude.{◌≡◌, ℕ, List, length, slice_get, None, Some, true};
 ghost use Rattle.cv_meaning.specs.Interpretation.{Interpretation};
 ghost use Rattle.cv_meaning.specs.Tapes.{Find_at};
-ghost use Rattle.cv_group.specs.rules.Symbols.{symbols_of};
-ghost use Rattle.cv_group.specs.rules.Faults.{IsAccepted};
+ghost use Rattle.cv_group_rules.specs.Symbols.{symbols_of};
+ghost use Rattle.cv_group_rules.specs.Faults.{IsAccepted};
 ghost use Rattle.cv_scope_rules.specs.Phrases.{IsWellFormed};
 ghost use Rattle.cv_scope_rules.specs.typing.Parts.{IsTypedGame};
 ghost use Rattle.cv_typing_runs.specs.Games.{HasArguments, HasKnownNames};

@@ -16,7 +16,7 @@ use Rattle.cv_scope_rules.specs.Sites.{Variable}
 use Rattle.cv_scope_rules.specs.typing.Signature.{declaration_of}
 use Rattle.cv_typing.proofs.Bridges.{declaration_same}
 use Rattle.cv_directory.specs.Definitions.{is_large}
-use Rattle.cv_costs.specs.Large.{chooses, first_other_site, is_large_by}
+use Rattle.cv_scene.specs.Large.{chooses, first_other_site, is_large_by}
 
 pub other_node : (large : ℕ → Bool) (x p : ℕ) (t : Tree) (h : Head) (a b : Tree) → t ≡ Node h a b
     → first_other_site large x p t ≡ cond (made_by h a (Variable x) && not (chooses large h)) (Some p) (first_of (first_other_site large x (first_place p h) a) (first_other_site large x (second_place p h a) b))

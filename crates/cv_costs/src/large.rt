@@ -6,7 +6,8 @@ ghost use Rattle.cv_directory.specs.Definitions as definitions;
 ghost use Rattle.cv_scope_rules.specs.Sites.{Variable};
 ghost use Rattle.cv_scope_rules.specs.Made.{made_by};
 ghost use Rattle.cv_scene_view.specs.Kept.{scene_of};
-ghost use Rattle.cv_costs.specs.Large as specs;
+ghost use Rattle.cv_costs.specs.Large as order;
+ghost use Rattle.cv_scene.specs.Large as specs;
 
 use cv_path::is_definition;
 use cv_syntax::{Class, Head, NameId, NodeId, Opened, Work, read_node};
@@ -95,7 +96,7 @@ pub fn first_other_site(work: &Work, game: NodeId, x: u32) -> Option<u32>
 
 /// Whether each of some numbers is below the next.
 pub fn are_increasing(places: &[u32]) -> bool
-    ensures { result ≡ specs.are_increasing places.now }
+    ensures { result ≡ order.are_increasing places.now }
 {
     if places.is_empty() {
         return true;

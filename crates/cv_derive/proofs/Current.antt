@@ -8,7 +8,7 @@ use Rattle.cv_syntax_trees.specs.declared.head.Head.TheVariants.{Eq, Leaf}
 use Rattle.cv_syntax_trees.specs.Children.{is_empty}
 use Rattle.cv_syntax_trees.specs.Tree.{Tree, Empty, Node, lone, same_tree}
 use Rattle.cv_scope_rules.specs.Context.{items}
-use Rattle.cv_derive_rules.specs.Inferences.{Visible, cited_term}
+use Rattle.cv_scene.specs.lines.Inferences.{Visible, cited_term}
 use Rattle.cv_scene.specs.Late.{are_current, is_next, without_next}
 use Rattle.cv_derive.specs.Current.{left_behind}
 

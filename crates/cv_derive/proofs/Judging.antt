@@ -12,8 +12,8 @@ use Rattle.cv_directory_sorts.specs.Sites.{first_of}
 use Rattle.cv_scene.specs.Derivations.{Derives, first_bad_line, is_right_split, unless}
 use Rattle.cv_scene.specs.Reasons.{is_right}
 use Rattle.cv_scene.specs.Sights.{Sight}
-use Rattle.cv_derive_rules.specs.Ends.{ends_with}
-use Rattle.cv_derive_rules.specs.Lines.{Lines, End, By, Cases, Statement, count, lines_of, statements}
+use Rattle.cv_scene.specs.lines.Ends.{ends_with}
+use Rattle.cv_scene.specs.lines.Lines.{Lines, End, By, Cases, Statement, count, lines_of, statements}
 use Rattle.cv_derive_lines.specs.declared.lines.Claim.{Claim}
 use Rattle.cv_derive_lines.specs.declared.lines.Line.{Line}
 use Rattle.cv_derive_lines.specs.declared.lines.Line.TheVariants as line

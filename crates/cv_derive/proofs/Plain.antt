@@ -3,7 +3,7 @@ use Rattle.std.proofs.Common.{◌≡◌, ℕ, List, [], ◌∷◌, None, map, ta
 use Rattle.cv_syntax_trees.specs.declared.head.Head.{Head}
 use Rattle.cv_syntax_trees.specs.declared.head.Head.TheVariants.{Leaf}
 use Rattle.cv_syntax_trees.specs.Tree.{Tree, Empty, Node}
-use Rattle.cv_derive_rules.specs.Given.{given_for, or_node, with_given}
+use Rattle.cv_scene.specs.lines.Given.{given_for, or_node, with_given}
 use Rattle.cv_derive_reasons.specs.substitution.Under.{under}
 
 none_given : (terms : Tree) (h : Head) → given_for [] terms h ≡ None

@@ -6,8 +6,8 @@ use Rattle.cv_syntax_trees.specs.Tree.{Tree, Node, first, second}
 use Rattle.cv_scene.specs.Reasons.{has_reason, is_distinct_of, is_fact_of, is_given_of, is_reason, is_right}
 use Rattle.cv_scene.specs.Sights.{is_typed}
 use Rattle.cv_scene.specs.Sights as spec
-use Rattle.cv_derive_rules.specs.Inferences.{Visible, cited_cell, cited_term, number_of}
-use Rattle.cv_derive_rules.specs.Lines.{Statement}
+use Rattle.cv_scene.specs.lines.Inferences.{Visible, cited_cell, cited_term, number_of}
+use Rattle.cv_scene.specs.lines.Lines.{Statement}
 use Rattle.cv_derive.specs.Following.{follows_by}
 use Rattle.cv_derive.specs.Seen.{IsSeenBy, Sees, sight_of}
 use Rattle.cv_derive.specs.declared.sight.Sight.{Sight}

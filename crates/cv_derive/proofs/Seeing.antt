@@ -6,8 +6,8 @@ use Rattle.cv_syntax_trees.specs.declared.head.Head.TheVariants.{Not}
 use Rattle.cv_syntax_trees.specs.Tree.{Tree, Empty, Node}
 use Rattle.cv_directory_sorts.specs.Sites.{first_of}
 use Rattle.cv_scene.specs.Derivations.{first_bad, first_bad_line, is_right_split, nothing_visible, unless, with_line}
-use Rattle.cv_derive_rules.specs.Inferences.{Visible}
-use Rattle.cv_derive_rules.specs.Lines.{Lines, End, By, Cases, Statement, Holds, count, lines_of}
+use Rattle.cv_scene.specs.lines.Inferences.{Visible}
+use Rattle.cv_scene.specs.lines.Lines.{Lines, End, By, Cases, Statement, Holds, count, lines_of}
 use Rattle.cv_scene.specs.Reasons.{is_right}
 use Rattle.cv_scene.specs.Sights.{Sight}
 use Rattle.cv_derive_lines.specs.citing.Citing.{cited_from}

@@ -2,7 +2,7 @@
 use Rattle.std.specs.Prelude.{ℕ, if◌then◌else◌, List, Option, Some, None}
 use Rattle.cv_syntax_trees.specs.declared.head.Head.TheVariants.{Eq, Leaf}
 use Rattle.cv_syntax_trees.specs.Tree.{Tree, Node, lone, same_tree}
-use Rattle.cv_derive_rules.specs.Inferences.{Visible}
+use Rattle.cv_scene.specs.lines.Inferences.{Visible}
 use Rattle.cv_scene.specs.Late.{is_next, without_next}
 
 -- the lines behind a term that is the index itself, or of which the next line says that it is equal to it

@@ -3,8 +3,8 @@ use Rattle.std.specs.Prelude.{Bool, false}
 use Rattle.cv_syntax_trees.specs.declared.head.Head.{Head}
 use Rattle.cv_syntax_trees.specs.declared.head.Head.TheVariants.{ByRefl, BySym, ByTrans, ByMp, ByAnd, ByLeft, ByRight, ByContra, ByExfalso, ByAgain, ByBool}
 use Rattle.cv_syntax_trees.specs.Tree.{Tree, same_tree}
-use Rattle.cv_derive_rules.specs.Inferences.{Visible, cited_term, is_both, is_left, is_refuted, is_reflexive, is_replaced_by, is_right_side, is_symmetric, is_transitive}
-use Rattle.cv_derive_rules.specs.Truths.{is_truth, no}
+use Rattle.cv_scene.specs.lines.Inferences.{Visible, cited_term, is_both, is_left, is_refuted, is_reflexive, is_replaced_by, is_right_side, is_symmetric, is_transitive}
+use Rattle.cv_scene.specs.lines.Truths.{is_truth, no}
 
 abbrev pub follows_by : Visible → (term : Tree) → Head → (line next : Tree) → Bool
 follows_by v t ByRefl l k = is_reflexive t

@@ -4,7 +4,7 @@ use Rattle.cv_syntax_trees.specs.declared.head.Head.TheVariants.{Not}
 use Rattle.cv_syntax_trees.specs.Tree.{Tree, Empty, Node}
 use Rattle.cv_directory_sorts.specs.Sites.{first_of}
 use Rattle.cv_scene.specs.Derivations.{is_right_split, unless}
-use Rattle.cv_derive_rules.specs.Lines.{Lines, End, By, Cases, count}
+use Rattle.cv_scene.specs.lines.Lines.{Lines, End, By, Cases, count}
 use Rattle.cv_scene.specs.Reasons.{is_right}
 use Rattle.cv_scene.specs.Sights.{Sight}
 use Rattle.cv_derive_lines.specs.citing.Citing.{cited_from}

@@ -16,8 +16,8 @@ use Rattle.cv_scope_rules.specs.Phrases.{IsWellFormed}
 use Rattle.cv_scene.specs.Sights as spec
 use Rattle.cv_scene.specs.Terms.{above_at, replications_at}
 use Rattle.cv_scene_view.specs.Kept.{scene_of}
-use Rattle.cv_derive_rules.specs.Inferences.{Visible}
-use Rattle.cv_derive_rules.specs.Lines.{count, lines_of}
+use Rattle.cv_scene.specs.lines.Inferences.{Visible}
+use Rattle.cv_scene.specs.lines.Lines.{count, lines_of}
 use Rattle.cv_derive_lines.specs.declared.citing.citing.Citing.{Citing}
 use Rattle.cv_derive_lines.specs.citing.Bookmarks.{visible_to}
 use Rattle.cv_derive_lines.specs.citing.Citing.{cited_from}

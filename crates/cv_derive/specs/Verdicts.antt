@@ -3,7 +3,7 @@ use Rattle.std.specs.Prelude.{ℕ, Bool, true, false, Option, Some, None, Result
 use Rattle.cv_syntax_trees.specs.Tree.{Tree}
 use Rattle.cv_scene.specs.Derivations.{first_bad_line}
 use Rattle.cv_scene.specs.Sights.{Sight}
-use Rattle.cv_derive_rules.specs.Ends.{ends_with}
+use Rattle.cv_scene.specs.lines.Ends.{ends_with}
 use Rattle.cv_derive.specs.declared.checking.DeriveFault.{DeriveFault}
 use Rattle.cv_derive.specs.declared.checking.DeriveFault.TheVariants.{LineBad, Targets}
 

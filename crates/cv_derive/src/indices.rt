@@ -5,7 +5,7 @@ ghost use Rattle.cv_syntax_trees.specs.Tree.{Node, lone, same_tree};
 ghost use Rattle.cv_syntax.specs.PoolTrees.{tree_at};
 ghost use Rattle.cv_scope_rules.specs.Context.{items};
 ghost use Rattle.cv_scene.specs.Late as late;
-ghost use Rattle.cv_derive_rules.specs.Inferences as inferences;
+ghost use Rattle.cv_scene.specs.lines.Inferences as inferences;
 ghost use Rattle.cv_derive_lines.specs.citing.Bookmarks.{CanCite, visible_to};
 ghost use Rattle.cv_derive.specs.Current.{left_behind};
 

@@ -1,7 +1,7 @@
 ghost use Rattle.std.specs.Prelude.{◌≡◌};
 ghost use Rattle.cv_syntax_trees.specs.Tree.{Empty, Tree};
 ghost use Rattle.cv_scene.specs.Derivations.{first_bad_line};
-ghost use Rattle.cv_derive_rules.specs.Lines.{lines_of};
+ghost use Rattle.cv_scene.specs.lines.Lines.{lines_of};
 ghost use Rattle.cv_scene.specs.Sights.{Sight};
 ghost use Rattle.cv_derive.specs.Searching.{first_bad_in};
 

@@ -5,8 +5,8 @@ ghost use Rattle.std.specs.List.{AllByRecursion};
 ghost use Rattle.cv_syntax_trees.specs.declared.head.Head.TheVariants.{ByHere};
 ghost use Rattle.cv_syntax_trees.specs.Tree.{chain, lone};
 ghost use Rattle.cv_scene.specs.Derivations.{first_bad_line};
-ghost use Rattle.cv_derive_rules.specs.Ends.{ends_with};
-ghost use Rattle.cv_derive_rules.specs.Truths.{no};
+ghost use Rattle.cv_scene.specs.lines.Ends.{ends_with};
+ghost use Rattle.cv_scene.specs.lines.Truths.{no};
 ghost use Rattle.cv_derive.specs.worked.Worked.{
   cases,
   ends,

@@ -19,10 +19,10 @@ use Rattle.cv_scope_rules.specs.typing.Signature.{sort_of}
 use Rattle.cv_typing_runs.specs.Games.{HasArguments, sort_of_meaning}
 use Rattle.cv_scene.specs.Terms.{above_under, is_term_under, signature_in}
 use Rattle.cv_scene.specs.Derivations.{first_bad, first_bad_line, is_right_split, nothing_visible, unless, with_line}
-use Rattle.cv_derive_rules.specs.Ends.{ends_in, same_statement}
-use Rattle.cv_derive_rules.specs.Inferences.{Visible, number_of, cited_term}
-use Rattle.cv_derive_rules.specs.Truths.{no}
-use Rattle.cv_derive_rules.specs.Lines.{Lines, End, By, Cases, Statement, Holds, IsDefined, count, lines_of, statements}
+use Rattle.cv_scene.specs.lines.Ends.{ends_in, same_statement}
+use Rattle.cv_scene.specs.lines.Inferences.{Visible, number_of, cited_term}
+use Rattle.cv_scene.specs.lines.Truths.{no}
+use Rattle.cv_scene.specs.lines.Lines.{Lines, End, By, Cases, Statement, Holds, IsDefined, count, lines_of, statements}
 use Rattle.cv_scene.specs.Late.{is_alone}
 use Rattle.cv_scene.specs.Reasons.{is_reason, is_right}
 use Rattle.cv_scene.specs.Sights.{Sight, is_condition, is_typed}

@@ -28,7 +28,7 @@ use Rattle.cv_typing_runs.proofs.Known.{AreKnown}
 use Rattle.cv_typing_runs.proofs.Terms.{AllSorted, asked_sort, faultless, message_sort, sorted}
 use Rattle.cv_scene.specs.Terms.{above_under, has_site, is_term_under, signature_in}
 use Rattle.cv_derive_laws.proofs.stores.Terms.{above_matches, term_known, term_typed}
-use Rattle.cv_derive_rules.specs.Inferences.{equations_of}
+use Rattle.cv_scene.specs.lines.Inferences.{equations_of}
 use Rattle.cv_scene.specs.Reasons.{is_data_by, is_injective}
 use Rattle.cv_scene.specs.Sights.{Sight}
 use Rattle.cv_derive_laws.specs.stores.Truth.{HasClosedEquations, WasReached}

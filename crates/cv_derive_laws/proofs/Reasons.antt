@@ -29,13 +29,13 @@ use Rattle.cv_typing_runs.specs.Games.{HasArguments, context_of, sort_of_meaning
 use Rattle.cv_typing_runs.proofs.Terms.{same_sorts}
 use Rattle.cv_scene.specs.Terms.{above_under, is_sort, is_term_under, signature_in}
 use Rattle.cv_derive_laws.proofs.stores.Terms.{term_sorted}
-use Rattle.cv_derive_rules.specs.Given.{with_given}
-use Rattle.cv_derive_rules.specs.Inferences.{Visible, are_equal_by, cell_in, cited_cell, is_both, is_left, is_refuted, is_reflexive, is_replaced_by, is_right_side, is_symmetric, is_transitive, number_of, cited_term, term_in}
-use Rattle.cv_derive_rules.specs.Lines.{Statement, Holds, IsDefined}
+use Rattle.cv_scene.specs.lines.Given.{with_given}
+use Rattle.cv_scene.specs.lines.Inferences.{Visible, are_equal_by, cell_in, cited_cell, is_both, is_left, is_refuted, is_reflexive, is_replaced_by, is_right_side, is_symmetric, is_transitive, number_of, cited_term, term_in}
+use Rattle.cv_scene.specs.lines.Lines.{Statement, Holds, IsDefined}
 use Rattle.cv_scene.specs.Late.{are_current, index_term, is_alone, is_late, is_late_cell, is_next, without_next}
 use Rattle.cv_scene.specs.Reasons.{are_congruent_by, are_equal_in, are_of_types, arguments, equations_in, is_cell_of, is_congruent, is_distinct_of, is_fact_of, is_given_of, is_instance, is_reason_of_cell, is_tree}
 use Rattle.cv_scene.specs.Sights.{Pair, Sight, from_one, is_cell_under, is_term_of, is_typed, site_cells, site_facts}
-use Rattle.cv_derive_rules.specs.Truths.{is_truth, no}
+use Rattle.cv_scene.specs.lines.Truths.{is_truth, no}
 use Rattle.cv_derive_laws.specs.stores.Truth.{AreAssigned, AreTrue, HasClosedEquations, IfBeside, IfEquation, IsClosedEquation, IsMetBeside, IsReached, IsTrue, WasReached, is_name_of}
 use Rattle.cv_derive_laws.proofs.Substitution.{names_of, put_value}
 use Rattle.cv_derive_laws.proofs.Truths.{IsBit, below_two, bit_true, equal_true, nought_one, true_equal, truth_holds}

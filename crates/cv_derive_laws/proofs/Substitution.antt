@@ -5,7 +5,7 @@ use Rattle.cv_syntax_trees.specs.Tree.{Tree, Empty, Node}
 use Rattle.cv_meaning.specs.Interpretation.{Setting}
 use Rattle.cv_meaning.specs.Memory.{Indices, Store, tuple}
 use Rattle.cv_meaning.specs.Terms.{bit, found_in, is_one, leaf_value, leaf_value_from, or_zero, value, values}
-use Rattle.cv_derive_rules.specs.Given.{term_for, or_node, with_given}
+use Rattle.cv_scene.specs.lines.Given.{term_for, or_node, with_given}
 use Rattle.cv_derive_laws.specs.stores.Truth.{AreOver, IsOver}
 
 -- the names of indices

@@ -15,7 +15,7 @@ ghost use Rattle.cv_scope_rules.specs.Phrases.{IsWellFormed};
 ghost use Rattle.cv_typing_runs.specs.Games.{HasArguments};
 ghost use Rattle.cv_scene.specs.Derivations.{first_bad_line};
 ghost use Rattle.cv_scene.specs.Late.{is_alone};
-ghost use Rattle.cv_derive_rules.specs.Lines.{lines_of, statements};
+ghost use Rattle.cv_scene.specs.lines.Lines.{lines_of, statements};
 ghost use Rattle.cv_scene.specs.Sights.{Sight};
 ghost use Rattle.cv_derive_laws.specs.stores.Truth.{HasClosedEquations, IsReached, IsTrue, WasReached};
 

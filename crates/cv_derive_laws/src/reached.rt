@@ -14,7 +14,7 @@ ghost use Rattle.cv_meaning.specs.Satisfies.{Satisfies};
 ghost use Rattle.cv_meaning_laws.specs.adequacy.Counted.{tapes_of};
 ghost use Rattle.cv_scene.specs.Scenes.{Scene};
 ghost use Rattle.cv_scene.specs.Derivations.{Derives};
-ghost use Rattle.cv_derive_rules.specs.Lines.{lines_of, statements};
+ghost use Rattle.cv_scene.specs.lines.Lines.{lines_of, statements};
 ghost use Rattle.cv_scene.specs.Pairs.{pair_at};
 ghost use Rattle.cv_scene.specs.Sights.{sight_at};
 ghost use Rattle.cv_derive_laws.specs.reached.Copies.{AreReached, both_copies};

@@ -8,8 +8,8 @@ use Rattle.cv_syntax.specs.declared.open.Opened.{Opened}
 use Rattle.cv_syntax_trees.specs.Children.{is_empty}
 use Rattle.cv_syntax_trees.specs.Tree.{Tree, Empty, Node}
 use Rattle.cv_syntax.specs.PoolTrees.{tree_at}
-use Rattle.cv_derive_rules.specs.Ends.{ends_in, same_statement, same_statements}
-use Rattle.cv_derive_rules.specs.Lines.{Lines, End, By, Cases, Statement, Holds, lines_of, statements}
+use Rattle.cv_scene.specs.lines.Ends.{ends_in, same_statement, same_statements}
+use Rattle.cv_scene.specs.lines.Lines.{Lines, End, By, Cases, Statement, Holds, lines_of, statements}
 use Rattle.cv_derive_lines.specs.declared.lines.Line.{Line}
 use Rattle.cv_derive_lines.specs.declared.lines.Claim.{Claim}
 use Rattle.cv_derive_lines.specs.Views.{front, in_front, statement_of}

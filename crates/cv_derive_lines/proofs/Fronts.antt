@@ -8,7 +8,7 @@ use Rattle.cv_syntax.specs.declared.open.Opened.{Opened}
 use Rattle.cv_syntax_trees.specs.Tree.{Tree, Empty, Node}
 use Rattle.cv_syntax.specs.PoolTrees.{tree_at}
 use Rattle.cv_syntax.proofs.Trees.{tree_at_None}
-use Rattle.cv_derive_rules.specs.Lines.{Lines, End, By, Holds, count, lines_of}
+use Rattle.cv_scene.specs.lines.Lines.{Lines, End, By, Holds, count, lines_of}
 use Rattle.cv_derive_lines.specs.declared.lines.Line.{Line}
 use Rattle.cv_derive_lines.specs.declared.lines.Line.TheVariants as line
 use Rattle.cv_derive_lines.specs.declared.lines.Claim.{Claim}

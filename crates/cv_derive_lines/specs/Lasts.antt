@@ -1,6 +1,6 @@
 -- What the last of some statements says, by one walk over them.
 use Rattle.std.specs.Prelude.{List, [], ◌∷◌, Option, Some, None}
-use Rattle.cv_derive_rules.specs.Lines.{Statement}
+use Rattle.cv_scene.specs.lines.Lines.{Statement}
 
 -- the last one, or what stands before them
 abbrev pub last_behind : Option Statement → List Statement → Option Statement

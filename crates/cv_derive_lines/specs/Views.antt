@@ -5,7 +5,7 @@ use Rattle.cv_pool.specs.Nodes.{ChildBelow}
 use Rattle.cv_syntax_trees.specs.declared.head.Head.TheVariants as head
 use Rattle.cv_syntax_trees.specs.Tree.{Tree, Empty, Node}
 use Rattle.cv_syntax.specs.PoolTrees.{tree_at}
-use Rattle.cv_derive_rules.specs.Lines.{Lines, By, Cases, Statement, Holds, IsDefined, lines_of}
+use Rattle.cv_scene.specs.lines.Lines.{Lines, By, Cases, Statement, Holds, IsDefined, lines_of}
 use Rattle.cv_derive_lines.specs.declared.lines.Line.{Line}
 use Rattle.cv_derive_lines.specs.declared.lines.Line.TheVariants as line
 use Rattle.cv_derive_lines.specs.declared.lines.Claim.{Claim}

@@ -1,8 +1,8 @@
 ghost use Rattle.std.specs.Prelude.{◌≡◌, ◌<◌, ◌^◌, IfSome, drop, length, option_map};
 ghost use Rattle.cv_pool.specs.Nodes.{ChildBelow};
 ghost use Rattle.cv_syntax.specs.PoolTrees.{tree_at};
-ghost use Rattle.cv_derive_rules.specs.Ends as ends;
-ghost use Rattle.cv_derive_rules.specs.Lines.{Holds, lines_of, statements};
+ghost use Rattle.cv_scene.specs.lines.Ends as ends;
+ghost use Rattle.cv_scene.specs.lines.Lines.{Holds, lines_of, statements};
 ghost use Rattle.cv_derive_lines.specs.Lasts.{last_of};
 ghost use Rattle.cv_derive_lines.specs.Views.{IsClaimBelow, statement_of};
 

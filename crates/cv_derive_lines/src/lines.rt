@@ -4,8 +4,8 @@ ghost use Rattle.cv_pool.specs.Nodes.{ChildBelow};
 ghost use Rattle.cv_syntax_trees.specs.Tree.{Node};
 ghost use Rattle.cv_syntax.specs.PoolTrees.{tree_at};
 ghost use Rattle.cv_syntax_trees.specs.declared.head.Head.TheVariants.{Cases};
-ghost use Rattle.cv_derive_rules.specs.Lines as derivations;
-ghost use Rattle.cv_derive_rules.specs.Lines.{Lines, lines_of, statements};
+ghost use Rattle.cv_scene.specs.lines.Lines as derivations;
+ghost use Rattle.cv_scene.specs.lines.Lines.{Lines, lines_of, statements};
 ghost use Rattle.cv_derive_lines.specs.declared.lines.Line.TheVariants as line;
 ghost use Rattle.cv_derive_lines.specs.declared.lines.Claim.TheVariants as claim;
 ghost use Rattle.cv_derive_lines.specs.Views.{AreBelow, IsClaimBelow, front, in_front, statement_of};
@@ -97,7 +97,7 @@ pub fn line_of(pool: &Pool, item: Option<NodeId>) -> Line
 }
 
 /// What a line says.
-#[tactic(auto, unfolding(cv_derive_rules::specs::Lines::statements))]
+#[tactic(auto, unfolding(cv_scene::specs::lines::Lines::statements))]
 pub fn claim_of(line: Line) -> Claim
     ensures claim { (trees : List KindTree) (rest : Lines) → statements (in_front trees line rest)
         ≡ statement_of trees result ∷ statements rest }

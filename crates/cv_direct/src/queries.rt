@@ -14,8 +14,8 @@ pub enum Atom {
     Term(NodeId),
 }
 
-/// A correspondence without `inj`: its left event with the variables there, the variables that stand on the right alone, in
-/// the order of their declaration and as a set, and what stands on the right.
+/// A correspondence without `inj` and without alternatives: its left event with the variables there, the variables that stand on
+/// the right alone, in the order of their declaration and as a set, and what stands on the right.
 #[derive(Drop)]
 pub struct Correspondence {
     pub event: u32,
@@ -163,7 +163,15 @@ struct Parts {
     rights: Option<NodeId>,
 }
 
-/// The parts of a query's tree, where it is a correspondence whose left event isn't marked `inj`.
+/// Whether a right side has `||` or parentheses.
+fn has_alternatives(pool: &Pool, rights: Option<NodeId>) -> bool {
+    match open_part(pool, rights) {
+        Some(node) => matches!(node.head, Head::AllOf | Head::SomeOf),
+        None => false,
+    }
+}
+
+/// The parts of a query's tree, where it is a correspondence whose left event isn't marked `inj`, without alternatives.
 fn parts_of(pool: &Pool, query: NodeId) -> Option<Parts> {
     let node = open(pool, query)?;
     let Head::Query = node.head else {
@@ -174,6 +182,9 @@ fn parts_of(pool: &Pool, query: NodeId) -> Option<Parts> {
     let Head::Occurs(event) = left.head else {
         return None;
     };
+    if has_alternatives(pool, sides.second) {
+        return None;
+    }
     Some(Parts {
         declared: node.first,
         event,
@@ -182,7 +193,7 @@ fn parts_of(pool: &Pool, query: NodeId) -> Option<Parts> {
     })
 }
 
-/// The parts of a query, where it is a correspondence without `inj`.
+/// The parts of a query, where it is a correspondence without `inj` and without alternatives.
 pub fn correspondence_of(
     alloc: Global,
     pool: &Pool,

@@ -28,8 +28,8 @@ use Rattle.cv_bound.specs.closings.Queries.{first_unclosed, numbers_of, sum_in}
 use Rattle.cv_context.specs.products.Shapes.{Shape}
 use Rattle.cv_context.specs.products.ShapesInCode.{shape_in}
 use Rattle.cv_match_laws.specs.functions.Forms.{HasLeftForm}
-use Rattle.cv_group.specs.rules.Symbols.{symbols_of}
-use Rattle.cv_group.specs.rules.Faults.{IsAccepted}
+use Rattle.cv_group_rules.specs.Symbols.{symbols_of}
+use Rattle.cv_group_rules.specs.Faults.{IsAccepted}
 use Rattle.cv_scope_rules.specs.typing.Signature.{declaration_of}
 use Rattle.cv_scene_view.specs.Kept.{scene_of}
 use Rattle.cv_steps_laws.specs.crypto.Conditions.{equivalence_by}

@@ -6,7 +6,7 @@ use Rattle.cv_syntax_trees.specs.Tree.{Tree}
 use Rattle.cv_accept.specs.Accepted.{Content}
 use Rattle.cv_kernel.specs.Drawings.{DrawsAlong, told}
 use Rattle.cv_kernel.specs.Proofs.{IsProof, Transition}
-use Rattle.cv_accept_laws.proofs.kernel.sequences.OneSequence.{alike}
+use Rattle.cv_sequences.proofs.files.kernel.sequences.OneSequence.{alike}
 use Rattle.cv_follow.specs.Scripts.{is_without_block, known_to}
 use Rattle.cv_follow_laws.proofs.Fronts.{drawn_front, proof_front, steps_front}
 

@@ -21,8 +21,8 @@ use Rattle.cv_group.specs.Tables.{constant_in, equiv_of, function_in}
 use Rattle.cv_group.specs.Refusals.{IsRefusalOf, IsRefusalAt}
 use Rattle.cv_group.specs.declared.fault.GroupFault.{GroupFault}
 use Rattle.cv_group.specs.declared.fault.GroupFault.TheVariants.{LeftNotTerm, TwoIndices, ShapeDiffers, FreeName, Unread, OutOfMemory}
-use Rattle.cv_group.specs.rules.Symbols.{Symbols, is_function_of}
-use Rattle.cv_group.specs.rules.Faults.{GroupRule, LeftIsTerm, OneIndex, SameShape, BoundNames, ReadNames, equivalences_in, first_group_fault, group_fault, later, refused_or}
+use Rattle.cv_group_rules.specs.Symbols.{Symbols, is_function_of}
+use Rattle.cv_group_rules.specs.Faults.{GroupRule, LeftIsTerm, OneIndex, SameShape, BoundNames, ReadNames, equivalences_in, first_group_fault, group_fault, later, refused_or}
 use Rattle.cv_lists.proofs.Numbers.{suc_is_plus_one}
 
 abbrev pub is_number : Option ℕ → ℕ → Bool

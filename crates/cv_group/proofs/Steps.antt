@@ -2,9 +2,9 @@
 use Rattle.std.proofs.Common.{◌≡◌, ℕ, Bool, false, ◌||◌, ap}
 use Rattle.cv_syntax_trees.specs.declared.head.Head.{Head}
 use Rattle.cv_syntax_trees.specs.Tree.{Tree, Empty, Node}
-use Rattle.cv_group.specs.rules.Rules.{defines, defines_here, names_here, names_of, reads}
-use Rattle.cv_group.specs.rules.Symbols.{Symbols}
-use Rattle.cv_group.specs.rules.Faults.{group_fault}
+use Rattle.cv_group_rules.specs.Rules.{defines, defines_here, names_here, names_of, reads}
+use Rattle.cv_group_rules.specs.Symbols.{Symbols}
+use Rattle.cv_group_rules.specs.Faults.{group_fault}
 use Rattle.cv_group.specs.Tables.{function_names, sides_fault}
 
 pub names_of_step : (t : Tree) (h : Head) (a b : Tree) → t ≡ Node h a b → (n x : ℕ) → names_of t n x ≡ (function_names a n x || names_of b n x)

@@ -2,4 +2,3 @@ pub mod Tables
 pub mod Refusals
 pub mod shapes
 pub mod bodies
-pub mod rules

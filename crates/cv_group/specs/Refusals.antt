@@ -2,7 +2,7 @@
 use Rattle.std.specs.Prelude.{◌≡◌, ℕ, Option, Some}
 use Rattle.cv_group.specs.declared.fault.GroupFault.{GroupFault}
 use Rattle.cv_group.specs.declared.fault.GroupFault.TheVariants.{LeftNotTerm, TwoIndices, ShapeDiffers, FreeName, Unread, OutOfMemory}
-use Rattle.cv_group.specs.rules.Faults.{GroupRule, LeftIsTerm, OneIndex, SameShape, BoundNames, ReadNames}
+use Rattle.cv_group_rules.specs.Faults.{GroupRule, LeftIsTerm, OneIndex, SameShape, BoundNames, ReadNames}
 
 -- how a broken rule is answered
 abbrev pub refused_by : GroupRule → GroupFault

@@ -11,10 +11,10 @@ use Rattle.cv_pool.specs.KindTree.{KindTree}
 use Rattle.cv_meaning.specs.contexts.Groups.{bound_of}
 use Rattle.cv_group.specs.declared.symbols.Symbols as code
 use Rattle.cv_group.specs.shapes.Shapes.{sides_agree}
-use Rattle.cv_group.specs.rules.Rules as rule
-use Rattle.cv_group.specs.rules.Rules.{takes}
-use Rattle.cv_group.specs.rules.Symbols.{Symbols}
-use Rattle.cv_group.specs.rules.Faults.{GroupRule, LeftIsTerm, OneIndex, SameShape, BoundNames, ReadNames, or_else}
+use Rattle.cv_group_rules.specs.Rules as rule
+use Rattle.cv_group_rules.specs.Rules.{takes}
+use Rattle.cv_group_rules.specs.Symbols.{Symbols}
+use Rattle.cv_group_rules.specs.Faults.{GroupRule, LeftIsTerm, OneIndex, SameShape, BoundNames, ReadNames, or_else}
 use Rattle.cv_pool.specs.declared.node.NodeId.{NodeId}
 
 -- the name of a constant's declaration

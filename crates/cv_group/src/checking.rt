@@ -6,8 +6,8 @@ ghost use Rattle.cv_syntax.specs.PoolTrees.{tree_at};
 ghost use Rattle.cv_directory.specs.Live.{IsLive};
 ghost use Rattle.cv_group.specs.Tables.{equiv_of, sides_fault, symbols_in};
 ghost use Rattle.cv_group.specs.Refusals.{IsRefusalAt, IsRefusalOf};
-ghost use Rattle.cv_group.specs.rules.Faults.{equivalences_in, first_group_fault, group_fault};
-ghost use Rattle.cv_group.specs.rules.Symbols.{symbols_of};
+ghost use Rattle.cv_group_rules.specs.Faults.{equivalences_in, first_group_fault, group_fault};
+ghost use Rattle.cv_group_rules.specs.Symbols.{symbols_of};
 
 use crate::bodies::Around;
 use crate::fault::{EquivFault, GroupFault};

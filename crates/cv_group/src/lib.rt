@@ -6,7 +6,6 @@ mod checking;
 mod fault;
 mod names;
 mod reads;
-pub mod rules;
 pub mod shapes;
 mod sides;
 mod symbols;

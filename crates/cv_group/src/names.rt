@@ -3,7 +3,7 @@ ghost use Rattle.cv_pool.specs.Nodes.{ChildBelow};
 ghost use Rattle.cv_syntax.specs.NameSets.{is_in, is_one_of};
 ghost use Rattle.cv_syntax_trees.specs.Tree.{bound_names};
 ghost use Rattle.cv_syntax.specs.PoolTrees.{tree_at};
-ghost use Rattle.cv_group.specs.rules.Rules.{binds_name, defines, defines_here, names_of as names_in, takes};
+ghost use Rattle.cv_group_rules.specs.Rules.{binds_name, defines, defines_here, names_of as names_in, takes};
 ghost use Rattle.cv_group.specs.Tables.{function_names};
 ghost use Rattle.cv_group.specs.bodies.Levels.{is_paired};
 

@@ -4,8 +4,8 @@ ghost use Rattle.cv_syntax.specs.NameSets.{is_in};
 ghost use Rattle.cv_syntax_trees.specs.Tree.{bound_names, second};
 ghost use Rattle.cv_syntax.specs.PoolTrees.{tree_at};
 ghost use Rattle.cv_group.specs.shapes.Shapes.{are_taken, without_all};
-ghost use Rattle.cv_group.specs.rules.Rules as rule;
-ghost use Rattle.cv_group.specs.rules.Rules.{each_function, taken_names};
+ghost use Rattle.cv_group_rules.specs.Rules as rule;
+ghost use Rattle.cv_group_rules.specs.Rules.{each_function, taken_names};
 
 use cv_syntax::children::{first_of, second_of};
 use cv_syntax::{Head, NodeId, Pool, read_node};

@@ -4,8 +4,8 @@ ghost use Rattle.cv_syntax_trees.specs.Tree.{first, second};
 ghost use Rattle.cv_syntax.specs.PoolTrees.{tree_at};
 ghost use Rattle.cv_group.specs.Tables.{around_by, symbols_in};
 ghost use Rattle.cv_group.specs.bodies.Levels.{around_of, is_paired};
-ghost use Rattle.cv_group.specs.rules.Rules as rule;
-ghost use Rattle.cv_group.specs.rules.Rules.{names_of as names_in};
+ghost use Rattle.cv_group_rules.specs.Rules as rule;
+ghost use Rattle.cv_group_rules.specs.Rules.{names_of as names_in};
 
 use crate::bodies::{Around, body_is_bound};
 use crate::names::{names_of, taken_names};

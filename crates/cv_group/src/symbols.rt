@@ -6,7 +6,7 @@ ghost use Rattle.cv_syntax.specs.NameSets.{is_in};
 ghost use Rattle.cv_meaning.specs.Interpretation.{is_constant_of};
 ghost use Rattle.cv_directory.specs.Live.{IsLive};
 ghost use Rattle.cv_group.specs.Tables.{constant_in, function_in, symbols_in};
-ghost use Rattle.cv_group.specs.rules.Symbols as rule;
+ghost use Rattle.cv_group_rules.specs.Symbols as rule;
 
 use cv_syntax::children::is_empty;
 use cv_syntax::{Class, Decl, Decls, Pool};

@@ -8,9 +8,9 @@ ghost use Rattle.cv_meaning.specs.contexts.Worked.{
   encryption_equivalence,
   guess_equivalence,
 };
-ghost use Rattle.cv_group.specs.rules.Symbols.{Symbols};
-ghost use Rattle.cv_group.specs.rules.Faults.{IsAccepted};
-ghost use Rattle.cv_group.specs.rules.Rules.{functions_in};
+ghost use Rattle.cv_group_rules.specs.Symbols.{Symbols};
+ghost use Rattle.cv_group_rules.specs.Faults.{IsAccepted};
+ghost use Rattle.cv_group_rules.specs.Rules.{functions_in};
 ghost use Rattle.cv_inline.specs.bodies.Accepted.{IsFineCall};
 ghost use Rattle.cv_meaning.specs.contexts.Inlined.{Caller, TheKey};
 ghost use Rattle.cv_inline.specs.bodies.Inlining.{Inlining};

@@ -23,7 +23,7 @@ use Rattle.cv_edit_places.specs.Plans.{most_coefficients}
 use Rattle.cv_edit_places.specs.declared.plan.Failure.{Failure}
 use Rattle.cv_rule.proofs.Leading.{stood}
 use Rattle.cv_kernel.specs.declared.planning.StepPlan.{StepPlan}
-use Rattle.cv_edit.specs.Edits.{CanBeMade, IsEditFault, edited, need_of}
+use Rattle.cv_rule.specs.edit.Edits.{CanBeMade, IsEditFault, edited, need_of}
 use Rattle.cv_kernel_crypto.specs.declared.games.testing.Next.{Next}
 use Rattle.cv_kernel.specs.declared.error.RuleError.{RuleError}
 use Rattle.cv_kernel.specs.declared.error.RuleError.TheVariants as rule

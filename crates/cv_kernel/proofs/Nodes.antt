@@ -5,7 +5,7 @@ use Rattle.cv_syntax_trees.specs.declared.head.Head.TheVariants as head
 use Rattle.cv_syntax.specs.declared.make.Make.TheVariants as make
 use Rattle.cv_syntax.specs.Postorder.{postorder}
 use Rattle.cv_syntax_trees.specs.Tree.{Tree, Empty, Node, first, second, size}
-use Rattle.cv_derive_rules.specs.Lines.{count, lines_of}
+use Rattle.cv_scene.specs.lines.Lines.{count, lines_of}
 use Rattle.cv_syntax.specs.limits.Limits.{nodes_of}
 use Rattle.cv_syntax.proofs.Walking.{weight_le}
 use Rattle.cv_syntax.proofs.listing.Lists.{overs_append}

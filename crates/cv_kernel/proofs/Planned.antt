@@ -17,8 +17,8 @@ use Rattle.cv_edit_places.specs.Changes.{need_at}
 use Rattle.cv_edit_places.specs.Plans.{failed, failure_of}
 use Rattle.cv_edit_changes.specs.declared.pruning.body.Body.{Body}
 use Rattle.cv_edit_changes.specs.pruning.Bodies as pruning
-use Rattle.cv_edit.specs.declared.edit.Edit.{Edit}
-use Rattle.cv_edit.specs.declared.edit.Edit.TheVariants as edit
+use Rattle.cv_rule.specs.declared.edit.edit.Edit.{Edit}
+use Rattle.cv_rule.specs.declared.edit.edit.Edit.TheVariants as edit
 use Rattle.cv_kernel.specs.declared.error.RuleError.{RuleError}
 use Rattle.cv_kernel.specs.declared.error.RuleError.TheVariants as rule
 use Rattle.cv_kernel.specs.Answers.{IsEdit, IsEditPlan, IsUnplanned}

@@ -10,8 +10,8 @@ use Rattle.cv_steps.specs.Costs.{cost_of}
 use Rattle.cv_steps.specs.Judgements.{Judgement, Refused, TooLarge, TooDeep, Accepted}
 use Rattle.cv_steps.specs.Steps.{Cost, Leads, Zero}
 use Rattle.cv_edit_places.specs.Plans.{failed, failure_of, most_coefficients}
-use Rattle.cv_edit.specs.declared.edit.Edit.{Edit}
-use Rattle.cv_edit.specs.Edits.{CanBeMade, edited, need_of}
+use Rattle.cv_rule.specs.declared.edit.edit.Edit.{Edit}
+use Rattle.cv_rule.specs.edit.Edits.{CanBeMade, edited, need_of}
 use Rattle.cv_kernel_crypto.specs.declared.games.testing.Next.{Next}
 use Rattle.cv_kernel.specs.declared.error.RuleError.{RuleError}
 use Rattle.cv_kernel.specs.declared.error.RuleError.TheVariants as rule

@@ -16,9 +16,9 @@ ghost use Rattle.cv_kernel.specs.Steps.{IsShort};
 
 use crate::error::RuleError;
 use crate::planning::place_in;
-use cv_edit::Edit;
 use cv_edit_changes::pruning::Body;
 use cv_edit_places::Change;
+use cv_rule::edit::Edit;
 use cv_rule::{Rule, conditions};
 use cv_script::Part;
 use cv_syntax::{NodeId, Work};

@@ -20,9 +20,9 @@ use crate::rooms::{
     split_definitions,
 };
 use cv_bound::Cost;
-use cv_edit::Edit;
 use cv_edit_places::Failure;
 use cv_rule::Rule;
+use cv_rule::edit::Edit;
 use cv_rule_pick::Derivations;
 use cv_script::StepView;
 use cv_syntax::{NodeId, Work};

@@ -7,7 +7,7 @@ use Rattle.cv_syntax.specs.Classes.{DeclsView, equiv_in}
 use Rattle.cv_syntax_trees.specs.Tree.{Tree}
 use Rattle.cv_syntax.specs.PoolTrees.{tree_at}
 use Rattle.cv_meaning.specs.contexts.Groups.{Left, side_group}
-use Rattle.cv_group.specs.rules.Faults.{SameShape}
+use Rattle.cv_group_rules.specs.Faults.{SameShape}
 use Rattle.cv_match.specs.Matched as matched
 use Rattle.cv_match_terms.specs.patterns.Sites.{HasInstance, site_in}
 use Rattle.cv_match_terms.specs.declared.patterns.site.Site.{Site}

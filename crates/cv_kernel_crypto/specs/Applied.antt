@@ -5,8 +5,8 @@ use Rattle.cv_syntax.specs.declared.work.BuildError.TheVariants as build
 use Rattle.cv_syntax_trees.specs.Tree.{Tree, depth, size}
 use Rattle.cv_syntax.specs.PoolTrees.{tree_at}
 use Rattle.cv_bound.specs.declared.cost.Cost.TheVariants as bound
-use Rattle.cv_group.specs.rules.Symbols.{symbols_of}
-use Rattle.cv_group.specs.rules.Faults.{IsAccepted}
+use Rattle.cv_group_rules.specs.Symbols.{symbols_of}
+use Rattle.cv_group_rules.specs.Faults.{IsAccepted}
 use Rattle.cv_match_laws.specs.functions.Forms.{HasLeftForm}
 use Rattle.cv_meaning.specs.contexts.Inlined.{Drawn}
 use Rattle.cv_scene.specs.Reductions.{Reduction, context_of_game}

@@ -4,7 +4,7 @@ use Rattle.std.specs.Prelude.{◌||◌, ◌==◌, if◌then◌else◌}
 use Rattle.cv_syntax_trees.specs.declared.head.Head.TheVariants.{Cons, Leaf}
 use Rattle.cv_syntax_trees.specs.Tree.{Tree, Empty, Node, chain}
 use Rattle.cv_directory_sorts.specs.Sites.{first_of}
-use Rattle.cv_derive_rules.specs.Given.{or_node, term_for, with_given}
+use Rattle.cv_scene.specs.lines.Given.{or_node, term_for, with_given}
 use Rattle.cv_scene.specs.Scenes.{or_empty}
 use Rattle.cv_scene.specs.Instances.{standing_for}
 use Rattle.cv_match_laws.specs.Named.{AreApart, Each, has_bare_leaves, has_leaf}

@@ -4,8 +4,8 @@ ghost use Rattle.std.specs.Prelude.{List};
 ghost use Rattle.cv_syntax_trees.specs.Declarations.{Declaration};
 ghost use Rattle.cv_syntax_trees.specs.Tree.{Tree};
 ghost use Rattle.cv_meaning.specs.contexts.Groups.{Left, side_group};
-ghost use Rattle.cv_group.specs.rules.Symbols.{symbols_of};
-ghost use Rattle.cv_group.specs.rules.Faults.{IsAccepted};
+ghost use Rattle.cv_group_rules.specs.Symbols.{symbols_of};
+ghost use Rattle.cv_group_rules.specs.Faults.{IsAccepted};
 ghost use Rattle.cv_scene.specs.LeftTerms.{HasLeftTerms};
 ghost use Rattle.cv_match_laws.specs.functions.Forms.{HasLeftForm};
 

@@ -7,7 +7,7 @@ ghost use Rattle.cv_meaning.specs.Tapes.{Made_at, New_at};
 ghost use Rattle.cv_scope_rules.specs.Phrases.{Term, is_phrase};
 ghost use Rattle.cv_scope_rules.specs.declared.position.Position.{Position};
 ghost use Rattle.cv_scene.specs.Sights.{variable_of};
-ghost use Rattle.cv_derive_rules.specs.Given.{term_for, with_given};
+ghost use Rattle.cv_scene.specs.lines.Given.{term_for, with_given};
 ghost use Rattle.cv_scene.specs.Instances.{Call, Matching, call_at};
 ghost use Rattle.cv_scene.specs.Refusals.{uses};
 ghost use Rattle.cv_scene.specs.Sites.{Site, sites_in};

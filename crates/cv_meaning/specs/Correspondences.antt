@@ -1,7 +1,7 @@
 -- Correspondences, and when a list of events breaks one. Blanchet, CSF 2007.
-use Rattle.std.specs.Prelude.{ℕ, suc, Bool, true, false, ◌&&◌, not, ◌==◌, if◌then◌else◌, List, [], ◌∷◌, ◌++◌, filter, flat_map, zip}
+use Rattle.std.specs.Prelude.{ℕ, suc, ◌+◌, Bool, true, false, ◌&&◌, not, ◌==◌, if◌then◌else◌, List, [], ◌∷◌, ◌++◌, filter, flat_map, map, zip}
 use Rattle.std.specs.List.{list_any, list_all}
-use Rattle.cv_syntax_trees.specs.declared.head.Head.TheVariants.{Occurs, OccursOnce, Leaf, Binder}
+use Rattle.cv_syntax_trees.specs.declared.head.Head.TheVariants.{Occurs, OccursOnce, Leaf, Binder, AllOf, SomeOf}
 use Rattle.cv_syntax_trees.specs.Tree.{Tree, Empty, Node, first, second, reads_only}
 use Rattle.cv_meaning.specs.Tapes.{same_tuple}
 use Rattle.cv_meaning.specs.Interpretation.{Setting}
@@ -19,7 +19,7 @@ pub record Correspondence : Type 0 where
   pub event : ℕ
   pub variables : List ℕ  -- the arguments of the left event
   pub others : List (ℕ × ℕ)  -- the variables on the right alone, with their types
-  pub atoms : List Atom
+  pub alternatives : List (List (ℕ × Atom))  -- of the right side: in each its atoms, with their numbers
 
 -- the correspondence of a query's tree
 
@@ -31,6 +31,33 @@ atom_of m = RightTerm m
 abbrev pub atoms_of : Tree → List Atom
 atoms_of Empty = []
 atoms_of (Node h a b) = atom_of a ∷ atoms_of b
+
+-- the alternatives of a right side; its atoms count in the order of the text
+
+abbrev pub numbered : ℕ → List Atom → List (ℕ × Atom)
+numbered n [] = []
+numbered n (c ∷ cs) = (n, c) ∷ numbered (suc n) cs
+
+abbrev pub atom_count : Tree → ℕ
+atom_count (Node AllOf a b) = atom_count a + atom_count b
+atom_count (Node SomeOf a b) = atom_count a + atom_count b
+atom_count m = 1
+
+-- for each of the first ones in order, each of the others behind it
+abbrev pub each_with : List (List (ℕ × Atom)) → List (List (ℕ × Atom)) → List (List (ℕ × Atom))
+each_with xs ys = flat_map (λ x. map (λ y. x ++ y) ys) xs
+
+-- where the first atom has this number
+abbrev pub alternatives_from : ℕ → Tree → List (List (ℕ × Atom))
+alternatives_from n (Node AllOf a b) = each_with (alternatives_from n a) (alternatives_from (n + atom_count a) b)
+alternatives_from n (Node SomeOf a b) = alternatives_from n a ++ alternatives_from (n + atom_count a) b
+alternatives_from n m = ((n, atom_of m) ∷ []) ∷ []
+
+-- a right side without `||` and parentheses is a list of atoms, its only alternative
+abbrev pub alternatives_of : Tree → List (List (ℕ × Atom))
+alternatives_of (Node AllOf a b) = alternatives_from 1 (Node AllOf a b)
+alternatives_of (Node SomeOf a b) = alternatives_from 1 (Node SomeOf a b)
+alternatives_of m = numbered 1 (atoms_of m) ∷ []
 
 abbrev pub event_of : Tree → ℕ
 event_of (Node (Occurs e) a b) = e
@@ -57,18 +84,18 @@ typed_names _ = []
 abbrev pub reads : Tree → ℕ → Bool
 reads m x = not (reads_only (λ y. not (y == x)) m)
 
--- the variables that are read in the atoms and are no argument of the left event
+-- the variables that are read on the right and are no argument of the left event
 abbrev pub on_the_right_alone : Tree → List ℕ → Tree → List (ℕ × ℕ)
-on_the_right_alone bs variables atoms = filter (λ (b : ℕ × ℕ). reads atoms b.0 && not (list_any (λ x. x == b.0) variables)) (typed_names bs)
+on_the_right_alone bs variables right = filter (λ (b : ℕ × ℕ). reads right b.0 && not (list_any (λ x. x == b.0) variables)) (typed_names bs)
 
 abbrev pub correspondence_from : Tree → Tree → Tree → Correspondence
-correspondence_from bs left atoms =
+correspondence_from bs left right =
     record {
       inj = is_once left;
       event = event_of left;
       variables = leaf_names (first left);
-      others = on_the_right_alone bs (leaf_names (first left)) atoms;
-      atoms = atoms_of atoms;
+      others = on_the_right_alone bs (leaf_names (first left)) right;
+      alternatives = alternatives_of right;
     }
 
 abbrev pub correspondence_of : Tree → Correspondence
@@ -95,9 +122,12 @@ left_values q e = zip q.variables e.values
 abbrev pub is_left : Correspondence → Happened → Bool
 is_left q e = e.event == q.event
 
--- some values of the other variables make every atom hold
+-- some values of the other variables make every atom of an alternative hold
+abbrev pub can_hold : Setting → Correspondence → List Happened → Happened → List (ℕ × Atom) → Bool
+can_hold g q es e atoms = list_any (λ ρ. list_all (λ (c : ℕ × Atom). holds g es ρ c.1) atoms) (assignments g q.others (left_values q e))
+
 abbrev pub is_met : Setting → Correspondence → List Happened → Happened → Bool
-is_met g q es e = list_any (λ ρ. list_all (holds g es ρ) q.atoms) (assignments g q.others (left_values q e))
+is_met g q es e = list_any (can_hold g q es e) q.alternatives
 
 -- the injective form
 
@@ -109,21 +139,25 @@ unfoldable pub positions : (Happened → Bool) → ℕ → List Happened → Lis
 positions p k [] = []
 positions p k (e ∷ es) = (if p e then k ∷ [] else []) ++ positions p (suc k) es
 
--- the ways to give each atom, from number n on, a position: what was used before, and is used then.
--- An atom that is marked `inj` uses no position twice
-unfoldable pub ways : Setting → List Happened → Indices → ℕ → List Atom → List (ℕ × ℕ) → List (List (ℕ × ℕ))
-ways g es ρ n [] used = used ∷ []
-ways g es ρ n (RightTerm m ∷ atoms) used = if is_one (value g ρ nowhere m) then ways g es ρ (suc n) atoms used else []
-ways g es ρ n (RightEvent inj f ms ∷ atoms) used =
-    flat_map (λ p. if inj && is_used used n p then [] else ways g es ρ (suc n) atoms (if inj then (n, p) ∷ used else used))
+-- the ways to give each atom of an alternative a position: what is used then. An atom that is marked `inj` gets no
+-- position that an atom of its number had for an earlier left event
+unfoldable pub ways : Setting → List Happened → Indices → (used : List (ℕ × ℕ)) → List (ℕ × Atom) → List (List (ℕ × ℕ))
+ways g es ρ used [] = used ∷ []
+ways g es ρ used ((n, RightTerm m) ∷ atoms) = if is_one (value g ρ nowhere m) then ways g es ρ used atoms else []
+ways g es ρ used ((n, RightEvent inj f ms) ∷ atoms) =
+    flat_map (λ p. if inj && is_used used n p then [] else map (λ after. if inj then (n, p) ∷ after else after) (ways g es ρ used atoms))
     (positions (is_event g ρ f ms) 0 es)
+
+-- by the alternative and the values of the other variables
+abbrev pub ways_for : Setting → Correspondence → List Happened → Happened → (used : List (ℕ × ℕ)) → List (ℕ × Atom) → List (List (ℕ × ℕ))
+ways_for g q es e used atoms = flat_map (λ ρ. ways g es ρ used atoms) (assignments g q.others (left_values q e))
 
 -- whether there is one choice for all left events
 unfoldable pub can_match : Setting → Correspondence → List Happened → List Happened → List (ℕ × ℕ) → Bool
 can_match g q es [] used = true
 can_match g q es (e ∷ lefts) used =
     if is_left q e
-    then list_any (can_match g q es lefts) (flat_map (λ ρ. ways g es ρ 0 q.atoms used) (assignments g q.others (left_values q e)))
+    then list_any (can_match g q es lefts) (flat_map (ways_for g q es e used) q.alternatives)
     else can_match g q es lefts used
 
 unfoldable pub broken : Setting → Correspondence → List Happened → Bool

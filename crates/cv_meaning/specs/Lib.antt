@@ -15,7 +15,6 @@ pub mod Correspondences
 pub mod Experiments
 pub mod Chances
 pub mod Advantage
-pub mod Direct
 pub mod Queries
 pub mod Replaced
 pub mod Still

@@ -1,4 +1,4 @@
-// The meaning of the calculus: interpretations, tapes, runs, experiments and advantages. Definitions
+// The meaning of the calculus: interpretations, tapes, runs, contexts, experiments and advantages. Definitions
 // alone, in `specs/`; their laws stand in the crates `cv_meaning_*`.
 #![tactic(auto)]
 

@@ -1,5 +1,5 @@
 -- What is below the side doesn't look at it: values, candidates, inputs, and whether a query is broken.
-use Rattle.std.proofs.Common.{◌≡◌, ℕ, suc, Bool, true, false, cond, ◌&&◌, ◌||◌, not, ◌==◌, List, [], ◌∷◌, ◌++◌, flat_map, Option, Some, None, is_some, refl, ap, ap₂}
+use Rattle.std.proofs.Common.{◌≡◌, ℕ, suc, Bool, true, false, cond, ◌&&◌, ◌||◌, not, ◌==◌, List, [], ◌∷◌, ◌++◌, flat_map, map, Option, Some, None, is_some, refl, ap, ap₂}
 use Rattle.std.proofs.Math.Path.{fun_ext}
 use Rattle.std.specs.List.{list_any, list_all}
 use Rattle.cv_syntax_trees.specs.declared.head.Head.TheVariants.{Par, Repl, In, Leaf, Read, Apply, Eq, And, Or, Not}
@@ -13,7 +13,7 @@ use Rattle.cv_meaning.specs.Binders.{fits, bound_to}
 use Rattle.cv_meaning.specs.Candidates.{Candidate, below, tuples_up_to, is_assigned, are_assigned, candidate, candidates_at, candidates, most_indices, widest}
 use Rattle.cv_meaning.specs.Inputs.{Input, inputs_of}
 use Rattle.cv_meaning.specs.Runs.{State}
-use Rattle.cv_meaning.specs.Correspondences.{Correspondence, Atom, RightEvent, RightTerm, correspondence_of, is_event, holds, assignments, left_values, is_left, is_met, is_used, positions, ways, can_match, broken}
+use Rattle.cv_meaning.specs.Correspondences.{Correspondence, Atom, RightEvent, RightTerm, correspondence_of, is_event, holds, assignments, left_values, is_left, can_hold, is_met, is_used, positions, ways, ways_for, can_match, broken}
 use Rattle.cv_meaning.specs.Experiments.{Experiment, Breaks, Guesses, holds_in}
 
 module _ (g : Setting) (s : Side) where
@@ -103,21 +103,29 @@ module _ (g : Setting) (s : Side) where
   assignments_same [] ρ = refl
   assignments_same (x ∷ xs) ρ = ap (λ (f : ℕ → List Indices). flat_map f (below (g.interpretation.type_size x.1))) (fun_ext (λ v. assignments_same xs (ρ ++ (x.0, v) ∷ [])))
 
-  met_same : (q : Correspondence) (es : List Happened) (e : Happened) → is_met h q es e ≡ is_met g q es e
-  met_same q es e =
+  hold_same : (q : Correspondence) (es : List Happened) (e : Happened) (atoms : List (ℕ × Atom)) → can_hold h q es e atoms ≡ can_hold g q es e atoms
+  hold_same q es e atoms =
       ap₂ (λ (p : Indices → Bool) (ρs : List Indices). list_any p ρs)
-      (fun_ext (λ (ρ : Indices). ap (λ (p : Atom → Bool). list_all p q.atoms) (fun_ext (holds_same es ρ))))
+      (fun_ext (λ (ρ : Indices). ap (λ (p : Atom → Bool). list_all (λ (c : ℕ × Atom). p c.1) atoms) (fun_ext (holds_same es ρ))))
       (assignments_same q.others (left_values q e))
 
-  ways_same : (es : List Happened) (ρ : Indices) (n : ℕ) (atoms : List Atom) (used : List (ℕ × ℕ)) → ways h es ρ n atoms used ≡ ways g es ρ n atoms used
+  met_same : (q : Correspondence) (es : List Happened) (e : Happened) → is_met h q es e ≡ is_met g q es e
+  met_same q es e = ap (λ (p : List (ℕ × Atom) → Bool). list_any p q.alternatives) (fun_ext (hold_same q es e))
+
+  ways_same : (es : List Happened) (ρ : Indices) (used : List (ℕ × ℕ)) (atoms : List (ℕ × Atom)) → ways h es ρ used atoms ≡ ways g es ρ used atoms
   unfolding ways
-  ways_same es ρ n [] used = refl
-  ways_same es ρ n (RightTerm m ∷ atoms) used =
-      ap₂ (λ (x : Bool) (w : List (List (ℕ × ℕ))). cond x w []) (ap is_one (value_same ρ nowhere m)) (ways_same es ρ (suc n) atoms used)
-  ways_same es ρ n (RightEvent inj f ms ∷ atoms) used =
-      ap₂ (λ (w : ℕ → List (List (ℕ × ℕ))) (ps : List ℕ). flat_map w ps)
-      (fun_ext (λ p. ap (λ (w : List (List (ℕ × ℕ))). cond (inj && is_used used n p) [] w) (ways_same es ρ (suc n) atoms (cond inj ((n, p) ∷ used) used))))
+  ways_same es ρ used [] = refl
+  ways_same es ρ used ((n, RightTerm m) ∷ atoms) =
+      ap₂ (λ (x : Bool) (w : List (List (ℕ × ℕ))). cond x w []) (ap is_one (value_same ρ nowhere m)) (ways_same es ρ used atoms)
+  ways_same es ρ used ((n, RightEvent inj f ms) ∷ atoms) =
+      ap₂ (λ (w : List (List (ℕ × ℕ))) (ps : List ℕ). flat_map (λ p. cond (inj && is_used used n p) [] (map (λ (after : List (ℕ × ℕ)). cond inj ((n, p) ∷ after) after) w)) ps)
+      (ways_same es ρ used atoms)
       (ap (λ (p : Happened → Bool). positions p 0 es) (event_same ρ f ms))
+
+  ways_for_same : (q : Correspondence) (es : List Happened) (e : Happened) (used : List (ℕ × ℕ)) (atoms : List (ℕ × Atom)) → ways_for h q es e used atoms ≡ ways_for g q es e used atoms
+  ways_for_same q es e used atoms =
+      ap₂ (λ (w : Indices → List (List (ℕ × ℕ))) (ρs : List Indices). flat_map w ρs)
+      (fun_ext (λ (ρ : Indices). ways_same es ρ used atoms)) (assignments_same q.others (left_values q e))
 
   matches_same : (q : Correspondence) (es lefts : List Happened) (used : List (ℕ × ℕ)) → can_match h q es lefts used ≡ can_match g q es lefts used
   unfolding can_match
@@ -126,8 +134,7 @@ module _ (g : Setting) (s : Side) where
       ap₂ (λ (x y : Bool). cond (is_left q e) x y)
       (ap₂ (λ (p : List (ℕ × ℕ) → Bool) (ws : List (List (ℕ × ℕ))). list_any p ws)
       (fun_ext (matches_same q es lefts))
-      (ap₂ (λ (w : Indices → List (List (ℕ × ℕ))) (ρs : List Indices). flat_map w ρs)
-      (fun_ext (λ (ρ : Indices). ways_same es ρ 0 q.atoms used)) (assignments_same q.others (left_values q e))))
+      (ap (λ (w : List (ℕ × Atom) → List (List (ℕ × ℕ))). flat_map w q.alternatives) (fun_ext (ways_for_same q es e used))))
       (matches_same q es lefts used)
 
   pub broken_same : (q : Correspondence) (es : List Happened) → broken h q es ≡ broken g q es

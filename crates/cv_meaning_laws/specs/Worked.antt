@@ -3,7 +3,7 @@
 -- 6, 10 and 12 of outputs, 4 is a nonce and 5 its type, 9 and 10 are index variables of a find or a
 -- received message, and 11, 12 and 13 are events.
 use Rattle.std.specs.Prelude.{ℕ, Bool, true, false, List, [], ◌∷◌, ◌++◌, Option, Some, None, ◌==◌, if◌then◌else◌}
-use Rattle.cv_syntax_trees.specs.declared.head.Head.TheVariants.{Stop, Yield, Par, Repl, New, If, Apply, Eq, And, Not, Yes, No, Forall, Key, Call}
+use Rattle.cv_syntax_trees.specs.declared.head.Head.TheVariants.{Stop, Yield, Par, Repl, New, If, Apply, Eq, And, Not, Yes, No, Cons, Forall, Query, Key, Call, SomeOf}
 use Rattle.cv_syntax_trees.specs.Tree.{Tree, Empty, Node, lone, chain, names, binders}
 use Rattle.cv_syntax_trees.specs.Builders.{leaf, read, input, output, event, branch, find, correspondence, occurs}
 use Rattle.cv_syntax_trees.specs.declared.class.Class.TheVariants as class
@@ -11,6 +11,7 @@ use Rattle.cv_syntax_trees.specs.Declarations.{Declaration, Named, Equation}
 use Rattle.cv_meaning.specs.Tapes.{Key_at, Made_at}
 use Rattle.cv_meaning.specs.Side.{Side}
 use Rattle.cv_meaning.specs.Interpretation.{Interpretation, Setting, setting_of, setting_with}
+use Rattle.cv_meaning.specs.Memory.{Happened}
 use Rattle.cv_meaning.specs.Serving.{Sent}
 use Rattle.cv_meaning.specs.Runs.{Adversary, Move, Calls, Tests, Guesses, Answer, Replied, Told}
 
@@ -95,12 +96,32 @@ authentication_query inj = correspondence ((1, 5) ∷ []) (occurs inj 12 (leaf 1
 abbrev pub some_query : Tree
 some_query = correspondence ((1, 5) ∷ (2, 5) ∷ []) (occurs false 12 (leaf 1 ∷ [])) (occurs false 11 (leaf 2 ∷ []) ∷ [])
 
--- the left event stands behind another input
--- in(3, ()); new 4:5; event 11(4); out(6, (4)); in(8, ()); event 12(4); out(10, ())
-abbrev pub later_game : Tree
-later_game =
-    input 3 [] [] (Node (New 4 5) Empty (event 11 (leaf 4 ∷ []) (output 6 [] (leaf 4 ∷ [])
-    (input 8 [] [] (event 12 (leaf 4 ∷ []) (output 10 [] [] (lone Stop)))))))
+-- a right side with alternatives, behind event 12(x), plain or injective
+
+abbrev pub right_atom : Bool → ℕ → Tree
+right_atom inj f = occurs inj f (leaf 1 ∷ [])
+
+abbrev pub one_of : Bool → ℕ → ℕ → Tree
+one_of inj f e = Node SomeOf (right_atom inj f) (right_atom inj e)
+
+abbrev pub query_with : Bool → Tree → Tree
+query_with inj right = Node Query (binders ((1, 5) ∷ [])) (Node Cons (occurs inj 12 (leaf 1 ∷ [])) right)
+
+-- which of two right events comes before the left one is by a test of two messages
+-- in(3, (4:5, 9:5)); if 4 = 9 then event 11(4); event 12(4); out(6, ()) else event 13(4); event 12(4); out(6, ())
+abbrev pub left_after : ℕ → Tree
+left_after f = event f (leaf 4 ∷ []) (event 12 (leaf 4 ∷ []) (output 6 [] [] (lone Stop)))
+
+abbrev pub two_ways_game : Tree
+two_ways_game = input 3 [] ((4, 5) ∷ (9, 5) ∷ []) (Node If (Node Eq (leaf 4) (leaf 9)) (chain (left_after 11 ∷ left_after 13 ∷ [])))
+
+abbrev pub sends_pair : ℕ → ℕ → List Answer → Option Move
+sends_pair v w [] = Some (Calls 3 [] (v ∷ w ∷ []))
+sends_pair v w _ = None
+
+-- one right event, and two left ones
+abbrev pub left_twice : List Happened
+left_twice = record { event = 11; values = 0 ∷ [] } ∷ record { event = 12; values = 0 ∷ [] } ∷ record { event = 12; values = 0 ∷ [] } ∷ []
 
 -- two receivers of one message: the left event comes twice for one right event
 -- in(3, ()); new 4:5; event 11(4); out(6, (4)); !7<=2 in(8[7], (9:5)); event 12(9[7]); out(10[7], ())

@@ -3,10 +3,10 @@
 
 pub mod adequacy;
 
-ghost use Rattle.std.specs.Prelude.{◌≡◌, ℕ, ◌-◌, Bool, List, [], ◌∷◌, true, false};
+ghost use Rattle.std.specs.Prelude.{◌≡◌, ℕ, ◌-◌, Bool, List, [], ◌∷◌, map, true, false};
 ghost use Rattle.std.specs.List.{AllByRecursion, IsDistinct};
-ghost use Rattle.cv_syntax_trees.specs.declared.head.Head.TheVariants.{Secret, SecretOnce};
-ghost use Rattle.cv_syntax_trees.specs.Tree.{Tree, chain, lone, reads_only};
+ghost use Rattle.cv_syntax_trees.specs.declared.head.Head.TheVariants.{AllOf, Secret, SecretOnce};
+ghost use Rattle.cv_syntax_trees.specs.Tree.{Tree, Node, chain, lone, reads_only};
 ghost use Rattle.cv_meaning.specs.Tapes.{Tape, same_cell, cells_of};
 ghost use Rattle.cv_meaning.specs.Side.{Side};
 ghost use Rattle.cv_meaning.specs.Interpretation.{Setting};
@@ -20,12 +20,11 @@ ghost use Rattle.cv_meaning.specs.Runs.{Adversary, Events, Mode, Real, Random, S
 ghost use Rattle.cv_meaning.specs.Consulted.{consulted, IsListed};
 ghost use Rattle.cv_meaning.specs.Cells.{cells};
 ghost use Rattle.cv_meaning.specs.Experiments.{Experiment, Guesses, holds_in, visits_of_run};
-ghost use Rattle.cv_meaning.specs.Correspondences.{Correspondence, RightEvent, broken, correspondence_of};
+ghost use Rattle.cv_meaning.specs.Correspondences.{Correspondence, RightEvent, alternatives_of, broken, correspondence_of};
 ghost use Rattle.cv_meaning.specs.Chances.{IsFraction};
 ghost use Rattle.cv_meaning.specs.Advantage.{IsAsked, advantage, chance_of};
-ghost use Rattle.cv_meaning.specs.Direct.{IsPlainlyDirect, is_unbound, plainly_covered};
 ghost use Rattle.cv_syntax_trees.specs.Builders.{leaf};
-ghost use Rattle.cv_meaning_laws.specs.Worked.{sized, adversary, colliding_game, game_after_collision, never_query, sends_twice, choosing_game, calls_copy, own_index_game, calls_once, two_events_game, authentication_query, some_query, later_game, replay_game, replays, compares, sessions_game, tests_sessions, data_file, declared_file, with_function, interpretation_of_file, context_game, context_setting, constant_query};
+ghost use Rattle.cv_meaning_laws.specs.Worked.{sized, adversary, colliding_game, game_after_collision, never_query, sends_twice, choosing_game, calls_copy, own_index_game, calls_once, two_events_game, authentication_query, some_query, right_atom, one_of, query_with, two_ways_game, sends_pair, left_twice, replay_game, replays, compares, sessions_game, tests_sessions, data_file, declared_file, with_function, interpretation_of_file, context_game, context_setting, constant_query};
 
 /// No chance and no advantage is above one.
 pub fn advantage_is_a_fraction()
@@ -97,7 +96,7 @@ pub fn worked_correspondences()
       event = 12;
       variables = 1 ∷ [];
       others = (2, 5) ∷ [];
-      atoms = RightEvent false 11 (chain (leaf 2 ∷ [])) ∷ [];
+      alternatives = ((1, RightEvent false 11 (chain (leaf 2 ∷ []))) ∷ []) ∷ [];
     } }
 
     ensures above { advantage (sized 3 1 1) (authentication_query false)
@@ -116,6 +115,36 @@ pub fn worked_correspondences()
         (adversary 3 replays) replay_game ≡ record { good = 0; all = 2 } }
     ensures injective { advantage (sized 2 2 1) (authentication_query true)
         (adversary 3 replays) replay_game ≡ record { good = 2; all = 2 } }
+{}
+
+/// The alternatives of `||` and of `&&` over it, in order, with the numbers of their atoms. Where one right
+/// event comes before the left one on one way and another one on the other way, each way has its
+/// alternative, in the injective form too, and the first right event alone is missing on the second way. One
+/// right event isn't enough for two left ones, unless the text has it twice: the atoms are told apart by
+/// their numbers.
+pub fn worked_alternatives()
+    ensures either { alternatives_of (one_of true 11 13)
+        ≡ ((1, RightEvent true 11 (chain (leaf 1 ∷ []))) ∷ [])
+        ∷ ((2, RightEvent true 13 (chain (leaf 1 ∷ []))) ∷ []) ∷ [] }
+    ensures both { map (map (λ c. c.0))
+        (alternatives_of (Node AllOf (one_of false 11 13) (one_of false 11 13)))
+        ≡ (1 ∷ 3 ∷ []) ∷ (1 ∷ 4 ∷ []) ∷ (2 ∷ 3 ∷ []) ∷ (2 ∷ 4 ∷ []) ∷ [] }
+
+    ensures first_way { advantage (sized 2 1 1) (query_with false (one_of false 11 13))
+        (adversary 2 (sends_pair 0 0)) two_ways_game ≡ record { good = 0; all = 1 } }
+    ensures second_way { advantage (sized 2 1 1) (query_with false (one_of false 11 13))
+        (adversary 2 (sends_pair 0 1)) two_ways_game ≡ record { good = 0; all = 1 } }
+    ensures missing { advantage (sized 2 1 1) (query_with false (chain (right_atom false 11 ∷ [])))
+        (adversary 2 (sends_pair 0 1)) two_ways_game ≡ record { good = 1; all = 1 } }
+    ensures first_injective { advantage (sized 2 1 1) (query_with true (one_of true 11 13))
+        (adversary 2 (sends_pair 0 0)) two_ways_game ≡ record { good = 0; all = 1 } }
+    ensures second_injective { advantage (sized 2 1 1) (query_with true (one_of true 11 13))
+        (adversary 2 (sends_pair 0 1)) two_ways_game ≡ record { good = 0; all = 1 } }
+
+    ensures shared { broken (sized 2 1 1)
+        (correspondence_of (query_with true (one_of true 11 13))) left_twice ≡ true }
+    ensures by_number { broken (sized 2 1 1)
+        (correspondence_of (query_with true (one_of true 11 11))) left_twice ≡ false }
 {}
 
 /// Secrecy of a nonce that was sent, and of the nonces of two sessions that were not: tests of both, two
@@ -161,16 +190,4 @@ pub fn worked_declarations()
     ensures satisfied { Satisfies declared_file interpretation_of_file }
     ensures not_injective { ¬ Satisfies data_file (with_function (λ v. 0)) }
     ensures equation_false { ¬ Satisfies declared_file (with_function (λ v. 1 - v)) }
-{}
-
-/// The plainly direct shape is met where the right event stands above the left one, also where an input
-/// stands between them, and not where it stands below.
-pub fn shapes()
-    ensures above { plainly_covered (is_unbound (two_events_game 11 12))
-        (correspondence_of (authentication_query false)) [] (two_events_game 11 12) ≡ true }
-    ensures below { plainly_covered (is_unbound (two_events_game 12 11))
-        (correspondence_of (authentication_query false)) [] (two_events_game 12 11) ≡ false }
-    ensures later { plainly_covered (is_unbound later_game)
-        (correspondence_of (authentication_query false)) [] later_game ≡ true }
-    ensures direct { IsPlainlyDirect (correspondence_of (authentication_query false)) later_game }
 {}

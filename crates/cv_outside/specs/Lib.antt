@@ -2,3 +2,4 @@ pub mod Causes
 pub mod Shelves
 pub mod Sinks
 pub mod Told
+pub mod words

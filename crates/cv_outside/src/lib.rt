@@ -1,9 +1,10 @@
-// What the program reads and writes: named files and a sink of bytes, in memory or real.
+// What the program reads and writes: the words of its command, sample files, named files, and a sink of bytes, in memory or real.
 #![tactic(auto)]
 
 mod real;
 mod shelf;
 mod sink;
+pub mod words;
 
 pub use real::{FileShelf, OutSink};
 pub use shelf::{FetchError, MemShelf, Shelf, SureShelf};

@@ -48,7 +48,7 @@ within s = made (λ _. tt) (deeper s)
 
 -- one level down
 pub passes_below : (all : List Sign) (r : Result ℕ ReadError) (n : ℕ) (s : Sort) (ts : List Sign) → 0 < n → PassesTree all r (read_in (n - 1) (rule s) ts) → PassesTree all r (below n s ts)
-passes_below all r n s ts h d = subst (λ x. PassesTree all r x) (sym (below_is n (n - 1) s ts (omega arith))) d
+passes_below all r n s ts h d = subst (λ x. PassesTree all r x) (sym (below_is rule n (n - 1) s ts (omega arith))) d
 
 pub ruleset choices = (passes_below)
 

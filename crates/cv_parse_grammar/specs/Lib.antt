@@ -5,6 +5,7 @@ pub mod Files
 pub mod Filled
 pub mod Identities
 pub mod InOrder
+pub mod Marks
 pub mod Names
 pub mod Phrases
 pub mod Processes

@@ -1,4 +1,4 @@
--- A phrase of files reads in a table what it reads in files.
+-- A phrase of files reads in a table what it reads by the rows of files, in which names may have marks.
 use Rattle.std.proofs.Common.{◌≡◌, ℕ, zero, suc, Bool, true, false, List, [], ◌∷◌, length, ◌&&◌, ◌||◌, refl, ap, ap₂, ◌∙◌, Ok, Err, Some, None}
 use Rattle.cv_syntax_trees.specs.Tree.{Tree}
 use Rattle.cv_parse_notation.specs.declared.sign.Sign.{Sign}
@@ -6,9 +6,10 @@ use Rattle.cv_parse_notation.specs.Form.{Form, sign, script_word, word, number, 
 use Rattle.cv_parse_notation.specs.Spells.{Kind, may_vanish, starts, starts_both, next_is}
 use Rattle.cv_parse_notation.specs.Reads.{Read, Reader, Found, ◌>>=◌, pick, nothing, no_level, no_syntax, joined, mapped, one_more, read_many, reads, read_sort, too_deep}
 use Rattle.cv_parse_grammar.specs.declared.role.Role.{Role}
+use Rattle.cv_parse_grammar.specs.Marks.{marked_rule}
 use Rattle.cv_parse_grammar.specs.Phrases.{Sort}
-use Rattle.cv_parse_grammar.specs.Rules.{rule, heads}
-use Rattle.cv_parse_terms.specs.Gives.{positive, below, read_in}
+use Rattle.cv_parse_grammar.specs.Rules.{heads}
+use Rattle.cv_parse_terms.specs.Gives.{positive, below_marked, read_marked}
 use Rattle.cv_parse_tables.specs.declared.piece.Outer.{Outer}
 use Rattle.cv_parse_tables.specs.declared.piece.Outer.TheVariants as outer
 use Rattle.cv_parse_tables.specs.Table.{Table, TableSort, OfFiles, carried, outer_form, fronts, table_heads, table_rule, table_below, table_reads}
@@ -106,17 +107,17 @@ carried_reads table room one two h (level f) ts =
 carried_reads table room one two h (deeper s) ts = h s ts
 
 -- a sort of files reads what it reads there
-outer_sort : (table : Table) (n : ℕ) (s : Sort) (ts : List Sign) → read_sort (table_heads table) (table_rule table) n (OfFiles s) ts ≡ read_sort heads rule n s ts
+outer_sort : (table : Table) (n : ℕ) (s : Sort) (ts : List Sign) → read_sort (table_heads table) (table_rule table) n (OfFiles s) ts ≡ read_sort heads marked_rule n s ts
 unfolding read_sort
-outer_sort table zero s ts = carried_reads table false (too_deep (table_heads table)) (too_deep heads) (λ q us. refl) (rule s) ts
-outer_sort table (suc n) s ts = carried_reads table true (read_sort (table_heads table) (table_rule table) n) (read_sort heads rule n) (outer_sort table n) (rule s) ts
+outer_sort table zero s ts = carried_reads table false (too_deep (table_heads table)) (too_deep heads) (λ q us. refl) (marked_rule s) ts
+outer_sort table (suc n) s ts = carried_reads table true (read_sort (table_heads table) (table_rule table) n) (read_sort heads marked_rule n) (outer_sort table n) (marked_rule s) ts
 
-outer_below : (table : Table) (n : ℕ) (s : Sort) (ts : List Sign) → table_below table n (OfFiles s) ts ≡ below n s ts
+outer_below : (table : Table) (n : ℕ) (s : Sort) (ts : List Sign) → table_below table n (OfFiles s) ts ≡ below_marked n s ts
 outer_below table zero s ts = refl
 outer_below table (suc n) s ts = outer_sort table n s ts
 
-pub outer_reads : (table : Table) (n : ℕ) {A : Type 0} (f : Form Role Sort A) (ts : List Sign) → table_reads table n (carried f) ts ≡ read_in n f ts
-outer_reads table n f ts = carried_reads table (positive n) (table_below table n) (below n) (outer_below table n) f ts
+pub outer_reads : (table : Table) (n : ℕ) {A : Type 0} (f : Form Role Sort A) (ts : List Sign) → table_reads table n (carried f) ts ≡ read_marked n f ts
+outer_reads table n f ts = carried_reads table (positive n) (table_below table n) (below_marked n) (outer_below table n) f ts
 
 pub outer_vanishes : (p : Outer) → may_vanish (carried (outer_form p)) ≡ false
 outer_vanishes outer.Term = refl

@@ -17,7 +17,7 @@ use Rattle.cv_parse_grammar.specs.declared.role.Role.{Role}
 use Rattle.cv_parse_terms.specs.declared.lookahead.ReadError.{ReadError}
 use Rattle.cv_parse_terms.specs.declared.lookahead.ReadError.TheVariants as error
 use Rattle.cv_parse_terms.specs.declared.trail.Trail.{Trail}
-use Rattle.cv_parse_terms.specs.Gives.{uses_of, Fails, IsRead, IsPlain, IsRow, IsMade, IsSign, Makes, MakesRow, Shallow, read_in}
+use Rattle.cv_parse_terms.specs.Gives.{uses_of, Fails, IsRead, IsPlain, IsRow, IsMade, IsSign, Makes, MakesRow, Shallow, read_marked}
 use Rattle.cv_parse_terms.proofs.Places.{fails_bind}
 use Rattle.cv_parse_terms.proofs.Passing.{passed_makes}
 use Rattle.cv_parse_terms.proofs.Rows.{prefixed}
@@ -73,11 +73,11 @@ pub tree_row : (all : List Sign) (u v : Trail) (r : Read Role Tree) (p : ℕ) �
 tree_row all u v r p d = token_row (λ t. t) all u v r d.value p d.read d.makes
 
 -- a phrase of files
-pub outer_row : (table : Table) (n : ℕ) (f : Form Role Sort Tree) (all ts : List Sign) (u v : Trail) (p : ℕ) → IsMade postorder all u v (read_in n f ts) p → IsRow all u v (table_reads table n (made (λ t. t ∷ []) (carried f)) ts) 1 p
-outer_row table n f all ts u v p d = makes_same all u v (Ok (1, p)) _ _ (ap (λ r. r >>= mapped (λ t. t ∷ [])) (outer_reads table n f ts)) (tree_row all u v (read_in n f ts) p d)
+pub outer_row : (table : Table) (n : ℕ) (f : Form Role Sort Tree) (all ts : List Sign) (u v : Trail) (p : ℕ) → IsMade postorder all u v (read_marked n f ts) p → IsRow all u v (table_reads table n (made (λ t. t ∷ []) (carried f)) ts) 1 p
+outer_row table n f all ts u v p d = makes_same all u v (Ok (1, p)) _ _ (ap (λ r. r >>= mapped (λ t. t ∷ [])) (outer_reads table n f ts)) (tree_row all u v (read_marked n f ts) p d)
 
-pub outer_fails : (table : Table) (n : ℕ) (f : Form Role Sort Tree) (all ts : List Sign) (e : ReadError) → Fails all e (read_in n f ts) → Fails all e (table_reads table n (made (λ t. t ∷ []) (carried f)) ts)
-outer_fails table n f all ts e h = fails_same all e _ _ (ap (λ r. r >>= mapped (λ t. t ∷ [])) (outer_reads table n f ts)) (fails_bind all e (read_in n f ts) (mapped (λ t. t ∷ [])) h)
+pub outer_fails : (table : Table) (n : ℕ) (f : Form Role Sort Tree) (all ts : List Sign) (e : ReadError) → Fails all e (read_marked n f ts) → Fails all e (table_reads table n (made (λ t. t ∷ []) (carried f)) ts)
+outer_fails table n f all ts e h = fails_same all e _ _ (ap (λ r. r >>= mapped (λ t. t ∷ [])) (outer_reads table n f ts)) (fails_bind all e (read_marked n f ts) (mapped (λ t. t ∷ [])) h)
 
 -- one tree of all that were read
 pub one_row : (f : List Tree → Tree) (parts : ℕ → List Make) → ((ts : List Tree) → flat_map postorder ts ++ parts (length ts) ≡ postorder (f ts)) → (all : List Sign) (u v w : Trail) (r : Read Role (List Tree)) (n p : ℕ) → IsRow all u v r n p → w.uses.items ≡ v.uses.items → w.makes.items ≡ v.makes.items ++ parts n → IsMade postorder all u w (r >>= mapped f) p
@@ -101,7 +101,7 @@ pub over_row : (h : Head) (all : List Sign) (u v w : Trail) (r : Read Role (List
 over_row h all u v w r n p d i m = makes_same all u w (Ok (1, p)) _ _ (mapped_twice (over h) r) (tree_row all u w _ p (one_row (over h) (over_parts h) (over_made h) all u v w r n p d i m))
 
 -- the same for a piece that says so
-pub outer_piece : (table : Table) (depth : ℕ) (row : ℕ → TreesForm) (c : Piece) (f : Outer) (all ts : List Sign) (u v : Trail) (p : ℕ) → c ≡ node.Phrase f → IsMade postorder all u v (read_in depth (outer_form f) ts) p → IsRow all u v (table_reads table depth (piece_form row c) ts) 1 p
+pub outer_piece : (table : Table) (depth : ℕ) (row : ℕ → TreesForm) (c : Piece) (f : Outer) (all ts : List Sign) (u v : Trail) (p : ℕ) → c ≡ node.Phrase f → IsMade postorder all u v (read_marked depth (outer_form f) ts) p → IsRow all u v (table_reads table depth (piece_form row c) ts) 1 p
 outer_piece table depth row c f all ts u v p e d = subst (λ x. IsRow all u v (table_reads table depth (piece_form row x) ts) 1 p) (sym e) (outer_row table depth (outer_form f) all ts u v p d)
 
 pub chain_piece : (table : Table) (depth : ℕ) (row : ℕ → TreesForm) (c : Piece) (r : ℕ) (all ts : List Sign) (u v w : Trail) (n p : ℕ) → c ≡ Chain r → IsRow all u v (table_reads table depth (row r) ts) n p → w.uses.items ≡ v.uses.items → w.makes.items ≡ v.makes.items ++ (Nothing ∷ replicate n (Over Cons)) → IsRow all u w (table_reads table depth (piece_form row c) ts) 1 p
@@ -115,7 +115,7 @@ passed_row : (all : List Sign) (u v : Trail) (result : Result (ℕ × ℕ) ReadE
 passed_row all u v (Ok x) e r i h = absurd i
 passed_row all u v (Err x) e r i h = subst (λ y. Fails all y r) (sym i) h
 
-pub outer_missing : (table : Table) (depth : ℕ) (row : ℕ → TreesForm) (c : Piece) (f : Outer) (all ts : List Sign) (u v : Trail) (result : Result (ℕ × ℕ) ReadError) (e : ReadError) → c ≡ node.Phrase f → IsErrAnd result (λ x. x ≡ e) → Fails all e (read_in depth (outer_form f) ts) → MakesRow all u v result (table_reads table depth (piece_form row c) ts)
+pub outer_missing : (table : Table) (depth : ℕ) (row : ℕ → TreesForm) (c : Piece) (f : Outer) (all ts : List Sign) (u v : Trail) (result : Result (ℕ × ℕ) ReadError) (e : ReadError) → c ≡ node.Phrase f → IsErrAnd result (λ x. x ≡ e) → Fails all e (read_marked depth (outer_form f) ts) → MakesRow all u v result (table_reads table depth (piece_form row c) ts)
 outer_missing table depth row c f all ts u v result e i j h =
     makes_same all u v result _ _ (ap (λ x. table_reads table depth (piece_form row x) ts) i)
     (passed_row all u v result e _ j (outer_fails table depth (outer_form f) all ts e h))

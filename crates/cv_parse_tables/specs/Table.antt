@@ -8,9 +8,10 @@ use Rattle.cv_parse_notation.specs.Form.{Form, sign, script_word, word, number, 
 use Rattle.cv_parse_notation.specs.Spells.{Kind, starts}
 use Rattle.cv_parse_notation.specs.Reads.{Reader, ◌>>=◌, mapped, reads, read_sort, read_word, read_number, too_deep}
 use Rattle.cv_parse_grammar.specs.declared.role.Role.{Role}
+use Rattle.cv_parse_grammar.specs.Marks.{marked_rule, term_of}
 use Rattle.cv_parse_grammar.specs.Phrases.{Sort, Term, Subscript, OneCell}
-use Rattle.cv_parse_grammar.specs.Terms.{term, terms, cell}
-use Rattle.cv_parse_grammar.specs.Rules.{rule, heads}
+use Rattle.cv_parse_grammar.specs.Terms.{terms, cell}
+use Rattle.cv_parse_grammar.specs.Rules.{heads}
 use Rattle.cv_parse_terms.specs.Gives.{positive, read_note}
 use Rattle.cv_parse_tables.specs.Trees.{single, over, perhaps, all_of, both_of}
 use Rattle.cv_parse_tables.specs.declared.piece.Outer.{Outer}
@@ -25,7 +26,7 @@ Table = List (List Piece)
 abbrev pub rows_of : List (Bor (List Piece)) → Table
 rows_of rows = map (λ r. r.now) rows
 
--- the phrases one level down: those of a row, those of files, and none at all
+-- the phrases one level down: those of a row, those of the sorts of files, in which names may have marks, and none at all
 pub data TableSort : Type 0 where
   Row : ℕ → TableSort
   OfFiles : Sort → TableSort
@@ -50,9 +51,9 @@ carried (made v f) = made v (carried f)
 carried (level f) = level (carried f)
 carried (deeper s) = deeper (OfFiles s)
 
--- the phrases of files that may stand in a row
+-- the phrases of files that may stand in a row, in which names may have marks
 abbrev pub outer_form : Outer → Form Role Sort Tree
-outer_form outer.Term = term
+outer_form outer.Term = term_of true
 outer_form outer.Terms = terms
 outer_form outer.InnerTerm = deeper Term
 outer_form outer.InnerSubscript = deeper Subscript
@@ -129,7 +130,7 @@ row_phrase table r = form table (length table) r
 -- the rule of a sort: a row's trees as one
 abbrev pub table_rule : Table → TableSort → Form Role TableSort Tree
 table_rule table (Row r) = made single (row_phrase table r)
-table_rule table (OfFiles s) = carried (rule s)
+table_rule table (OfFiles s) = carried (marked_rule s)
 table_rule table Nowhere = deeper Nowhere
 
 -- how phrases one level down begin, where so many of them may stand at one another's front

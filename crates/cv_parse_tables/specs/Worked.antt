@@ -68,3 +68,16 @@ deeper_nested =
 -- { new x;
 abbrev pub unended : List Sign
 unended = Mark mark.OpenBrace ∷ Mark mark.New ∷ Word 1 ∷ Mark mark.Semicolon ∷ []
+
+-- { if x' { }; }, its tree, and { if x''
+abbrev pub marked : List Sign
+marked = Mark mark.OpenBrace ∷ Mark mark.If ∷ Word 1 ∷ Mark mark.Prime ∷ Mark mark.OpenBrace ∷ Mark mark.CloseBrace ∷ Mark mark.Semicolon ∷ Mark mark.CloseBrace ∷ []
+
+abbrev pub marking : Tree
+marking = chain (Node head.Cases (lone (head.Primed 1)) Empty ∷ [])
+
+abbrev pub uses_of_marked : List (Use Role)
+uses_of_marked = record { role = role.Mentions; name = 1; left = 6 } ∷ record { role = role.AsBare; name = 0; left = 5 } ∷ []
+
+abbrev pub marked_twice : List Sign
+marked_twice = Mark mark.OpenBrace ∷ Mark mark.If ∷ Word 1 ∷ Mark mark.Prime ∷ Mark mark.Prime ∷ []

@@ -2,7 +2,8 @@ use cv_parse_grammar::Role;
 use cv_parse_notation::{Mark, ScriptWord};
 use cv_syntax::Head;
 
-/// A phrase of files that may stand in a row.
+/// A phrase of files that may stand in a row. Behind a bare name of it the mark of a second copy may
+/// stand.
 #[derive(Clone, Copy)]
 pub enum Outer {
     /// A term.

@@ -2,7 +2,7 @@ ghost use Rattle.std.specs.Prelude.{◌≡◌, ◌+◌, ◌<◌, ◌≤◌, ◌^
 ghost use Rattle.cv_syntax.specs.Postorder.{postorder};
 ghost use Rattle.cv_parse_notation.specs.Form.{many, level};
 ghost use Rattle.cv_parse_notation.specs.Reads.{read_sort};
-ghost use Rattle.cv_parse_terms.specs.Gives.{Makes, MakesRow, read_in};
+ghost use Rattle.cv_parse_terms.specs.Gives.{Makes, MakesRow, read_marked};
 ghost use Rattle.cv_parse_terms.specs.declared.lookahead.ReadError.TheVariants.{OutOfMemory};
 ghost use Rattle.cv_parse_tables.specs.Table.{outer_form, never, Chooses, rows_of, form, row_form, piece_form, table_heads, table_rule, Row, table_below, table_reads, read_name, read_numeral, read_told, maybe_form, many_form};
 
@@ -12,8 +12,8 @@ use crate::trees::{close_all, close_over};
 use cv_parse_grammar::Role;
 use cv_parse_notation::Sign;
 use cv_parse_terms::{
-    ReadError, Trail, cell, close_chain, expect, inner_cell, inner_subscript, inner_term, leaf,
-    note, number, script_word, shallow, term, terms, word,
+    ReadError, Trail, close_chain, enter_marked, expect, leaf, note, number, script_word, shallow,
+    word,
 };
 use cv_syntax::Head;
 
@@ -100,7 +100,8 @@ fn told(
     Ok((0, at))
 }
 
-/// A phrase of files.
+/// A phrase of files, in which names may have marks, by its row.
+#[tactic(auto, using(cv_parse_terms::proofs::Entries::entries))]
 fn outer(
     signs: &[Sign],
     at: usize,
@@ -111,15 +112,15 @@ fn outer(
     requires at { at ≤ length signs.now }
     requires few { length signs.now < 2 ^ 32 }
     ensures reads { Makes postorder signs.now trail.old trail.new result
-        (read_in depth (outer_form phrase) (drop at signs.now)) }
+        (read_marked depth (outer_form phrase) (drop at signs.now)) }
 {
     match phrase {
-        Outer::Term => term(signs, at, trail, depth),
-        Outer::Terms => terms(signs, at, trail, depth),
-        Outer::InnerTerm => inner_term(signs, at, trail, depth),
-        Outer::InnerSubscript => inner_subscript(signs, at, trail, depth),
-        Outer::Cell => cell(signs, at, trail, depth),
-        Outer::InnerCell => inner_cell(signs, at, trail, depth),
+        Outer::Term => enter_marked(37, signs, at, trail, depth),
+        Outer::Terms => enter_marked(2, signs, at, trail, depth),
+        Outer::InnerTerm => enter_marked(1, signs, at, trail, depth),
+        Outer::InnerSubscript => enter_marked(52, signs, at, trail, depth),
+        Outer::Cell => enter_marked(41, signs, at, trail, depth),
+        Outer::InnerCell => enter_marked(42, signs, at, trail, depth),
     }
 }
 

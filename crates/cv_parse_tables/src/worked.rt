@@ -3,7 +3,7 @@ ghost use Rattle.cv_syntax.specs.Postorder.{postorder};
 ghost use Rattle.cv_parse_notation.specs.Reads.{read_sort, found, Syntax, Nesting};
 ghost use Rattle.cv_parse_terms.specs.Gives.{Makes};
 ghost use Rattle.cv_parse_tables.specs.Table.{table_heads, table_rule, Row};
-ghost use Rattle.cv_parse_tables.specs.Worked.{blocks, read_block, nested, nesting, uses_of_nested, deeper_nested, unended};
+ghost use Rattle.cv_parse_tables.specs.Worked.{blocks, read_block, nested, nesting, uses_of_nested, deeper_nested, unended, marked, marking, uses_of_marked, marked_twice};
 
 use crate::piece::{Outer, Piece};
 use crate::reading::phrase;
@@ -86,10 +86,12 @@ pub fn block(signs: &[Sign], at: usize, trail: &mut Trail, depth: u32) -> Result
     phrase(&ROWS, BLOCK as usize, signs, at, trail, depth)
 }
 
-/// Readings of the small grammar: a block in a block, a block that is one level too deep, and a
-/// block that does not end.
+/// Readings of the small grammar: a block in a block, a block that is one level too deep, a block that
+/// does not end, and names with a mark and with two.
 pub fn worked_readings()
     ensures nested { read_block 2 nested ≡ found nesting uses_of_nested [] }
     ensures too_deep { read_block 2 deeper_nested ≡ Err (Nesting 6) }
     ensures unended { read_block 1 unended ≡ Err (Syntax 0) }
+    ensures marked { read_block 2 marked ≡ found marking uses_of_marked [] }
+    ensures marked_twice { read_block 2 marked_twice ≡ Err (Syntax 1) }
 {}

@@ -1,5 +1,6 @@
 -- Levels, and choices by the next token.
 use Rattle.std.proofs.Common.{◌≡◌, ℕ, zero, suc, ◌-◌, ◌<◌, ◌≤◌, Bool, true, false, List, length, drop, refl, ap, arith, subst, length-drop, Err}
+use Rattle.cv_syntax_trees.specs.Tree.{Tree}
 use Rattle.cv_parse_notation.specs.declared.sign.Sign.{Sign}
 use Rattle.cv_parse_notation.specs.declared.sign.Mark.{Mark}
 use Rattle.cv_parse_notation.specs.Spells.{next_is, is_mark}
@@ -8,9 +9,9 @@ use Rattle.cv_parse_notation.specs.Reads.{Read, Reader, Syntax, Nesting, pick, n
 use Rattle.cv_parse_terms.specs.declared.lookahead.ReadError.{ReadError}
 use Rattle.cv_parse_terms.specs.declared.lookahead.ReadError.TheVariants as error
 use Rattle.cv_parse_grammar.specs.declared.role.Role.{Role}
-use Rattle.cv_parse_grammar.specs.Phrases.{Sort}
-use Rattle.cv_parse_grammar.specs.Rules.{rule, heads}
-use Rattle.cv_parse_terms.specs.Gives.{Fails, positive, below, read_in, read_opening, Shallow}
+use Rattle.cv_parse_grammar.specs.Phrases.{Phrase, Sort}
+use Rattle.cv_parse_grammar.specs.Rules.{heads}
+use Rattle.cv_parse_terms.specs.Gives.{Fails, positive, below, below_by, read_by, read_opening, Shallow}
 
 pub room : (n : ℕ) → 0 < n → positive n ≡ true
 room zero h = absurd (omega arith)
@@ -39,13 +40,13 @@ not_here all at true l h = absurd (cc)
 not_here all at false l h = (l, ap (λ n. let r : Read Role _ = Err (Syntax n) in r) (length-drop at all))
 
 -- one level down is the sort's own form with a level less
-pub below_is : (n m : ℕ) (s : Sort) (ts : List Sign) → n ≡ suc m → below n s ts ≡ read_in m (rule s) ts
+pub below_is : (rows : Sort → Phrase Tree) (n m : ℕ) (s : Sort) (ts : List Sign) → n ≡ suc m → below_by rows n s ts ≡ read_by rows m (rows s) ts
 unfolding read_sort
-below_is zero m s ts h = absurd (cc)
-below_is (suc zero) zero s ts h = refl
-below_is (suc zero) (suc m) s ts h = absurd (omega arith)
-below_is (suc (suc n)) zero s ts h = absurd (omega arith)
-below_is (suc (suc n)) (suc m) s ts h = let e : n ≡ m = omega arith in subst (λ k. below (suc (suc n)) s ts ≡ read_in (suc k) (rule s) ts) e refl
+below_is rows zero m s ts h = absurd (cc)
+below_is rows (suc zero) zero s ts h = refl
+below_is rows (suc zero) (suc m) s ts h = absurd (omega arith)
+below_is rows (suc (suc n)) zero s ts h = absurd (omega arith)
+below_is rows (suc (suc n)) (suc m) s ts h = let e : n ≡ m = omega arith in subst (λ k. below_by rows (suc (suc n)) s ts ≡ read_by rows (suc k) (rows s) ts) e refl
 
 pub fails_below : (all : List Sign) (e : ReadError) (n : ℕ) (s : Sort) (ts : List Sign) → n ≤ 0 → Fails all e (too_deep heads s ts) → Fails all e (below n s ts)
 fails_below all e zero s ts h d = d

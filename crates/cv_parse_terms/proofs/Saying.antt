@@ -12,6 +12,7 @@ use Rattle.cv_parse_notation.specs.Spells.{Kind, next_is, is_mark, starts}
 use Rattle.cv_parse_notation.specs.Form.{sign, word, note, number, nought, find_word, may, many, either, made, level, deeper, ◌&◌, ◌▸◌, ◌◂◌}
 use Rattle.cv_parse_notation.specs.Reads.{Read, Reader, Found, Fault, ◌>>=◌, found, joined, mapped, one_more, nothing, pick, no_level, no_syntax, read_many, read_sign}
 use Rattle.cv_parse_grammar.specs.declared.role.Role.{Role}
+use Rattle.cv_parse_grammar.specs.Marks.{rule_of}
 use Rattle.cv_parse_grammar.specs.Phrases.{Sort, Phrase, after, row}
 use Rattle.cv_parse_grammar.specs.Rules.{heads}
 use Rattle.cv_parse_terms.specs.declared.piece.Ahead.{Ahead}
@@ -23,9 +24,9 @@ use Rattle.cv_parse_terms.specs.declared.piece.Closing.{Closing}
 use Rattle.cv_parse_terms.specs.declared.piece.Closing.TheVariants as closing
 use Rattle.cv_parse_terms.specs.declared.piece.Piece.{Piece}
 use Rattle.cv_parse_terms.specs.declared.piece.Piece.TheVariants as piece
-use Rattle.cv_parse_terms.specs.Gives.{positive, below, read_in}
-use Rattle.cv_parse_terms.specs.Tables.{Parts, Work, Step, and_then, before, begins, below_step, bounds, changed, chosen, closed, instead, made_no_part, more, named, no_room, paired, part, piece_in, pieces_in, pieces_step, put, refused, row_in, waits}
-use Rattle.cv_parse_terms.specs.TermRows.{row_of, term_rows}
+use Rattle.cv_parse_terms.specs.Gives.{positive, below_by, read_by}
+use Rattle.cv_parse_terms.specs.Tables.{Parts, Work, Step, and_then, before, begins, below_step, bounds, changed, chosen, closed, instead, made_no_part, marked, more, named, no_room, paired, part, piece_in, pieces_in, pieces_step, put, refused, row_in, waits}
+use Rattle.cv_parse_terms.specs.TermRows.{row_in_table, rows_of_terms}
 use Rattle.cv_parse_terms.proofs.Walks.{row_law}
 
 -- parts behind those that are there
@@ -35,8 +36,12 @@ adds l q = record { names = q.names; makes = q.makes ++ l }
 abbrev pub grows : Tree → Parts → Parts
 grows t = adds (postorder t)
 
-pub record Says {A : Type 0} (n bound : ℕ) (ps : List Piece) (f : Phrase A) (e : A → Parts → Parts) : Type 0 where
-  pub law : (w : Work) → pieces_in term_rows n bound ps w ≡ put e w (read_in n f w.rest)
+-- in files, or in scripts, where names may have marks
+pub record SaysBy (marks : Bool) {A : Type 0} (n bound : ℕ) (ps : List Piece) (f : Phrase A) (e : A → Parts → Parts) : Type 0 where
+  pub law : (w : Work) → pieces_in (rows_of_terms marks) n bound ps w ≡ put e w (read_by (rule_of marks) n f w.rest)
+
+abbrev pub Says : {A : Type 0} → ℕ → ℕ → List Piece → Phrase A → (A → Parts → Parts) → Type 0
+Says n bound ps f e = SaysBy false n bound ps f e
 
 -- steps one behind another
 
@@ -73,86 +78,86 @@ put_changed c e w (Err f) = refl
 
 -- one piece
 
-pub sign_says : (n b : ℕ) (m : Mark) → Says n b (piece.Sign m ∷ []) (sign m) made_no_part
+pub sign_says : {marks : Bool} (n b : ℕ) (m : Mark) → SaysBy marks n b (piece.Sign m ∷ []) (sign m) made_no_part
 sign_says n b m = record { law = λ w. then_nothing (put made_no_part w (read_sign m w.rest)) }
 
-pub word_says : (n b : ℕ) (r : Role) → Says n b (piece.Word r ∷ []) (word r) waits
-word_says n b r = record { law = λ w. then_nothing (put waits w (read_in n (word r) w.rest)) }
+pub word_says : {marks : Bool} (n b : ℕ) (r : Role) → SaysBy marks n b (piece.Word r ∷ []) (word r) waits
+word_says {marks = marks} n b r = record { law = λ w. then_nothing (put waits w (read_by (rule_of marks) n (word r) w.rest)) }
 
-pub note_says : (n b : ℕ) (r : Role) → Says n b (piece.Note r ∷ []) (note r) made_no_part
-note_says n b r = record { law = λ w. then_nothing (put made_no_part w (read_in n (note r) w.rest)) }
+pub note_says : {marks : Bool} (n b : ℕ) (r : Role) → SaysBy marks n b (piece.Note r ∷ []) (note r) made_no_part
+note_says {marks = marks} n b r = record { law = λ w. then_nothing (put made_no_part w (read_by (rule_of marks) n (note r) w.rest)) }
 
-pub zero_says : (n b : ℕ) → Says n b (piece.Zero ∷ []) nought made_no_part
-zero_says n b = record { law = λ w. then_nothing (put made_no_part w (read_in n nought w.rest)) }
+pub zero_says : {marks : Bool} (n b : ℕ) → SaysBy marks n b (piece.Zero ∷ []) nought made_no_part
+zero_says {marks = marks} n b = record { law = λ w. then_nothing (put made_no_part w (read_by (rule_of marks) n nought w.rest)) }
 
-pub find_says : (n b : ℕ) → Says n b (piece.Find ∷ []) find_word waits
-find_says n b = record { law = λ w. then_nothing (put waits w (read_in n find_word w.rest)) }
+pub find_says : {marks : Bool} (n b : ℕ) → SaysBy marks n b (piece.Find ∷ []) find_word waits
+find_says {marks = marks} n b = record { law = λ w. then_nothing (put waits w (read_by (rule_of marks) n find_word w.rest)) }
 
-pub number_says : (n b : ℕ) → Says n b (piece.Instead ∷ []) number instead
-number_says n b = record { law = λ w. then_nothing (put instead w (read_in n number w.rest)) }
+pub number_says : {marks : Bool} (n b : ℕ) → SaysBy marks n b (piece.Instead ∷ []) number instead
+number_says {marks = marks} n b = record { law = λ w. then_nothing (put instead w (read_by (rule_of marks) n number w.rest)) }
 
-pub row_says : {A : Type 0} {n : ℕ} {f : Phrase A} {e : A → Parts → Parts} (b r : ℕ) → r < b → Says n r (row_of r) f e → Says n b (piece.Row r ∷ []) f e
-row_says {n = n} b r h s = record { law = λ w. then_nothing (row_in term_rows n b r w) ∙ (row_law term_rows n b r w h ∙ s.law w) }
+pub row_says : {marks : Bool} {A : Type 0} {n : ℕ} {f : Phrase A} {e : A → Parts → Parts} (b r : ℕ) → r < b → SaysBy marks n r (row_in_table marks r) f e → SaysBy marks n b (piece.Row r ∷ []) f e
+row_says {marks = marks} {n = n} b r h s = record { law = λ w. then_nothing (row_in (rows_of_terms marks) n b r w) ∙ (row_law (rows_of_terms marks) n b r w h ∙ s.law w) }
 
 -- how forms go together
 
-pub both_says : {A B : Type 0} {n b : ℕ} {f : Phrase A} {g : Phrase B} {e : A → Parts → Parts} {d : B → Parts → Parts} (ps qs : List Piece) → Says n b ps f e → Says n b qs g d → Says n b (ps ++ qs) (f & g) (λ c q. d c.1 (e c.0 q))
-both_says {n = n} {b = b} {f = f} {g = g} {e = e} {d = d} ps qs s t = record {
+pub both_says : {marks : Bool} {A B : Type 0} {n b : ℕ} {f : Phrase A} {g : Phrase B} {e : A → Parts → Parts} {d : B → Parts → Parts} (ps qs : List Piece) → SaysBy marks n b ps f e → SaysBy marks n b qs g d → SaysBy marks n b (ps ++ qs) (f & g) (λ c q. d c.1 (e c.0 q))
+both_says {marks = marks} {n = n} {b = b} {f = f} {g = g} {e = e} {d = d} ps qs s t = record {
   law = λ w.
-      pieces_append (piece_in term_rows n b) ps qs w
-      ∙ (ap (λ r. and_then r (pieces_in term_rows n b qs)) (s.law w) ∙ put_both e d w (read_in n f w.rest) (pieces_in term_rows n b qs) (read_in n g) t.law);
+      pieces_append (piece_in (rows_of_terms marks) n b) ps qs w
+      ∙ (ap (λ r. and_then r (pieces_in (rows_of_terms marks) n b qs)) (s.law w) ∙ put_both e d w (read_by (rule_of marks) n f w.rest) (pieces_in (rows_of_terms marks) n b qs) (read_by (rule_of marks) n g) t.law);
 }
 
-pub made_says : {A B : Type 0} {n b : ℕ} {ps : List Piece} {f : Phrase A} (v : A → B) (e : B → Parts → Parts) → Says n b ps f (λ a. e (v a)) → Says n b ps (made v f) e
-made_says {n = n} {f = f} v e s = record { law = λ w. s.law w ∙ put_mapped v e w (read_in n f w.rest) }
+pub made_says : {marks : Bool} {A B : Type 0} {n b : ℕ} {ps : List Piece} {f : Phrase A} (v : A → B) (e : B → Parts → Parts) → SaysBy marks n b ps f (λ a. e (v a)) → SaysBy marks n b ps (made v f) e
+made_says {marks = marks} {n = n} {f = f} v e s = record { law = λ w. s.law w ∙ put_mapped v e w (read_by (rule_of marks) n f w.rest) }
 
-pub same_says : {A : Type 0} {n b : ℕ} {ps : List Piece} {f : Phrase A} {e : A → Parts → Parts} (d : A → Parts → Parts) → ((a : A) (q : Parts) → e a q ≡ d a q) → Says n b ps f e → Says n b ps f d
-same_says {n = n} {f = f} {e = e} d h s = record { law = λ w. s.law w ∙ put_same e d w (read_in n f w.rest) (λ x i. h x.value w.parts) }
+pub same_says : {marks : Bool} {A : Type 0} {n b : ℕ} {ps : List Piece} {f : Phrase A} {e : A → Parts → Parts} (d : A → Parts → Parts) → ((a : A) (q : Parts) → e a q ≡ d a q) → SaysBy marks n b ps f e → SaysBy marks n b ps f d
+same_says {marks = marks} {n = n} {f = f} {e = e} d h s = record { law = λ w. s.law w ∙ put_same e d w (read_by (rule_of marks) n f w.rest) (λ x i. h x.value w.parts) }
 
-pub sign_before : {A : Type 0} {n b : ℕ} {f : Phrase A} {e : A → Parts → Parts} (m : Mark) (ps : List Piece) → Says n b ps f e → Says n b (piece.Sign m ∷ ps) (m ▸ f) e
+pub sign_before : {marks : Bool} {A : Type 0} {n b : ℕ} {f : Phrase A} {e : A → Parts → Parts} (m : Mark) (ps : List Piece) → SaysBy marks n b ps f e → SaysBy marks n b (piece.Sign m ∷ ps) (m ▸ f) e
 sign_before {n = n} {b = b} {e = e} m ps s = made_says (λ p. p.1) e (both_says (piece.Sign m ∷ []) ps (sign_says n b m) s)
 
-pub sign_behind : {A : Type 0} {n b : ℕ} {f : Phrase A} {e : A → Parts → Parts} (m : Mark) (ps : List Piece) → Says n b ps f e → Says n b (ps ++ piece.Sign m ∷ []) (f ◂ m) e
+pub sign_behind : {marks : Bool} {A : Type 0} {n b : ℕ} {f : Phrase A} {e : A → Parts → Parts} (m : Mark) (ps : List Piece) → SaysBy marks n b ps f e → SaysBy marks n b (ps ++ piece.Sign m ∷ []) (f ◂ m) e
 sign_behind {n = n} {b = b} {e = e} m ps s = made_says (λ p. p.0) e (both_says ps (piece.Sign m ∷ []) s (sign_says n b m))
 
-pub between : {A : Type 0} {n b : ℕ} {f : Phrase A} {e : A → Parts → Parts} (m k : Mark) (ps : List Piece) → Says n b ps f e → Says n b (piece.Sign m ∷ (ps ++ piece.Sign k ∷ [])) (m ▸ f ◂ k) e
+pub between : {marks : Bool} {A : Type 0} {n b : ℕ} {f : Phrase A} {e : A → Parts → Parts} (m k : Mark) (ps : List Piece) → SaysBy marks n b ps f e → SaysBy marks n b (piece.Sign m ∷ (ps ++ piece.Sign k ∷ [])) (m ▸ f ◂ k) e
 between m k ps s = sign_before m (ps ++ piece.Sign k ∷ []) (sign_behind k ps s)
 
 -- parts and heads behind a form, and a part before it
 
-changes : {A : Type 0} {n b : ℕ} {f : Phrase A} {e : A → Parts → Parts} (c : Parts → Parts) (one : Piece) (ps : List Piece) → ((w : Work) → piece_in term_rows n b one w ≡ changed c w) → Says n b ps f e → Says n b (ps ++ one ∷ []) f (λ a q. c (e a q))
-changes {A} {n = n} {b = b} {f = f} {e = e} c one ps h s = record {
+changes : {marks : Bool} {A : Type 0} {n b : ℕ} {f : Phrase A} {e : A → Parts → Parts} (c : Parts → Parts) (one : Piece) (ps : List Piece) → ((w : Work) → piece_in (rows_of_terms marks) n b one w ≡ changed c w) → SaysBy marks n b ps f e → SaysBy marks n b (ps ++ one ∷ []) f (λ a q. c (e a q))
+changes {marks = marks} {A = A} {n = n} {b = b} {f = f} {e = e} c one ps h s = record {
   law = λ w.
-      pieces_append (piece_in term_rows n b) ps (one ∷ []) w
-      ∙ (ap (λ r. and_then r (pieces_in term_rows n b (one ∷ []))) (s.law w)
-      ∙ (go w (read_in n f w.rest) ∙ put_changed c e w (read_in n f w.rest)));
+      pieces_append (piece_in (rows_of_terms marks) n b) ps (one ∷ []) w
+      ∙ (ap (λ r. and_then r (pieces_in (rows_of_terms marks) n b (one ∷ []))) (s.law w)
+      ∙ (go w (read_by (rule_of marks) n f w.rest) ∙ put_changed c e w (read_by (rule_of marks) n f w.rest)));
 } where
-  go : (w : Work) (r : Read Role A) → and_then (put e w r) (pieces_in term_rows n b (one ∷ [])) ≡ and_then (put e w r) (changed c)
+  go : (w : Work) (r : Read Role A) → and_then (put e w r) (pieces_in (rows_of_terms marks) n b (one ∷ [])) ≡ and_then (put e w r) (changed c)
   go w (Ok x) =
       let v : Work = record { parts = e x.value w.parts; uses = w.uses ++ x.uses; rest = x.rest } in
-      then_nothing (piece_in term_rows n b one v) ∙ h v
+      then_nothing (piece_in (rows_of_terms marks) n b one v) ∙ h v
   go w (Err y) = refl
 
-pub part_behind : {A : Type 0} {n b : ℕ} {f : Phrase A} {e : A → Parts → Parts} (m : Make) (ps : List Piece) → Says n b ps f e → Says n b (ps ++ piece.Part m ∷ []) f (λ a q. part m (e a q))
+pub part_behind : {marks : Bool} {A : Type 0} {n b : ℕ} {f : Phrase A} {e : A → Parts → Parts} (m : Make) (ps : List Piece) → SaysBy marks n b ps f e → SaysBy marks n b (ps ++ piece.Part m ∷ []) f (λ a q. part m (e a q))
 part_behind m ps s = changes (part m) (piece.Part m) ps (λ w. refl) s
 
-pub head_behind : {A : Type 0} {n b : ℕ} {f : Phrase A} {e : A → Parts → Parts} (h : Naming) (ps : List Piece) → Says n b ps f e → Says n b (ps ++ piece.Named h ∷ []) f (λ a q. named h (e a q))
+pub head_behind : {marks : Bool} {A : Type 0} {n b : ℕ} {f : Phrase A} {e : A → Parts → Parts} (h : Naming) (ps : List Piece) → SaysBy marks n b ps f e → SaysBy marks n b (ps ++ piece.Named h ∷ []) f (λ a q. named h (e a q))
 head_behind h ps s = changes (named h) (piece.Named h) ps (λ w. refl) s
 
-pub pair_behind : {A : Type 0} {n b : ℕ} {f : Phrase A} {e : A → Parts → Parts} (h : Pairing) (ps : List Piece) → Says n b ps f e → Says n b (ps ++ piece.Paired h ∷ []) f (λ a q. paired h (e a q))
+pub pair_behind : {marks : Bool} {A : Type 0} {n b : ℕ} {f : Phrase A} {e : A → Parts → Parts} (h : Pairing) (ps : List Piece) → SaysBy marks n b ps f e → SaysBy marks n b (ps ++ piece.Paired h ∷ []) f (λ a q. paired h (e a q))
 pair_behind h ps s = changes (paired h) (piece.Paired h) ps (λ w. refl) s
 
-pub before_behind : {A : Type 0} {n b : ℕ} {f : Phrase A} {e : A → Parts → Parts} (ps : List Piece) → Says n b ps f e → Says n b (ps ++ piece.Before ∷ []) f (λ a q. before (e a q))
+pub before_behind : {marks : Bool} {A : Type 0} {n b : ℕ} {f : Phrase A} {e : A → Parts → Parts} (ps : List Piece) → SaysBy marks n b ps f e → SaysBy marks n b (ps ++ piece.Before ∷ []) f (λ a q. before (e a q))
 before_behind ps s = changes before piece.Before ps (λ w. refl) s
 
-pub bounds_behind : {A : Type 0} {n b : ℕ} {f : Phrase A} {e : A → Parts → Parts} (ps : List Piece) → Says n b ps f e → Says n b (ps ++ piece.Bounds ∷ []) f (λ a q. bounds (e a q))
+pub bounds_behind : {marks : Bool} {A : Type 0} {n b : ℕ} {f : Phrase A} {e : A → Parts → Parts} (ps : List Piece) → SaysBy marks n b ps f e → SaysBy marks n b (ps ++ piece.Bounds ∷ []) f (λ a q. bounds (e a q))
 bounds_behind ps s = changes bounds piece.Bounds ps (λ w. refl) s
 
-pub value_behind : {A : Type 0} {n b : ℕ} {f : Phrase A} {e : A → Parts → Parts} (x : ℕ) (ps : List Piece) → Says n b ps f e → Says n b (ps ++ piece.Value x ∷ []) f (λ a q. waits x (e a q))
+pub value_behind : {marks : Bool} {A : Type 0} {n b : ℕ} {f : Phrase A} {e : A → Parts → Parts} (x : ℕ) (ps : List Piece) → SaysBy marks n b ps f e → SaysBy marks n b (ps ++ piece.Value x ∷ []) f (λ a q. waits x (e a q))
 value_behind x ps s = changes (waits x) (piece.Value x) ps (λ w. refl) s
 
-pub part_before : {A : Type 0} {n b : ℕ} {f : Phrase A} {e : A → Parts → Parts} (m : Make) (ps : List Piece) → Says n b ps f e → Says n b (piece.Part m ∷ ps) f (λ a q. e a (part m q))
-part_before {A} {n = n} {f = f} {e = e} m ps s = record { law = λ w. s.law (record { parts = part m w.parts; uses = w.uses; rest = w.rest }) ∙ go w (read_in n f w.rest) } where
+pub part_before : {marks : Bool} {A : Type 0} {n b : ℕ} {f : Phrase A} {e : A → Parts → Parts} (m : Make) (ps : List Piece) → SaysBy marks n b ps f e → SaysBy marks n b (piece.Part m ∷ ps) f (λ a q. e a (part m q))
+part_before {marks = marks} {A = A} {n = n} {f = f} {e = e} m ps s = record { law = λ w. s.law (record { parts = part m w.parts; uses = w.uses; rest = w.rest }) ∙ go w (read_by (rule_of marks) n f w.rest) } where
   go : (w : Work) (r : Read Role A) → put e (record { parts = part m w.parts; uses = w.uses; rest = w.rest }) r ≡ put (λ a q. e a (part m q)) w r
   go w (Ok x) = refl
   go w (Err y) = refl
@@ -175,42 +180,61 @@ refused_put false false e w h = refl
 refused_put true false e w h = absurd (cc)
 refused_put false true e w h = absurd (cc)
 
-pub either_says : {A : Type 0} {n : ℕ} {f g : Phrase A} {e : A → Parts → Parts} (b : ℕ) (a : Ahead) (r s : ℕ) → r < b → s < b → ((k : Kind) → begins a k ≡ starts heads f k) → Says n r (row_of r) f e → Says n s (row_of s) g e → Says n b (piece.Choice a r s ∷ []) (either f g) e
-either_says {n = n} {f = f} {g = g} {e = e} b a r s h i k x y = record {
+pub either_says : {marks : Bool} {A : Type 0} {n : ℕ} {f g : Phrase A} {e : A → Parts → Parts} (b : ℕ) (a : Ahead) (r s : ℕ) → r < b → s < b → ((k : Kind) → begins a k ≡ starts heads f k) → SaysBy marks n r (row_in_table marks r) f e → SaysBy marks n s (row_in_table marks s) g e → SaysBy marks n b (piece.Choice a r s ∷ []) (either f g) e
+either_says {marks = marks} {n = n} {f = f} {g = g} {e = e} b a r s h i k x y = record {
   law = λ w.
-      then_nothing (chosen (next_is (begins a) w.rest) (row_in term_rows n b r) (row_in term_rows n b s) w)
-      ∙ chosen_put (next_is (begins a) w.rest) (next_is (starts heads f) w.rest) (row_in term_rows n b r) (row_in term_rows n b s) e w (read_in n f) (read_in n g)
-      (next_same (begins a) (starts heads f) k w.rest) (row_law term_rows n b r w h ∙ x.law w) (row_law term_rows n b s w i ∙ y.law w);
+      then_nothing (chosen (next_is (begins a) w.rest) (row_in (rows_of_terms marks) n b r) (row_in (rows_of_terms marks) n b s) w)
+      ∙ chosen_put (next_is (begins a) w.rest) (next_is (starts heads f) w.rest) (row_in (rows_of_terms marks) n b r) (row_in (rows_of_terms marks) n b s) e w (read_by (rule_of marks) n f) (read_by (rule_of marks) n g)
+      (next_same (begins a) (starts heads f) k w.rest) (row_law (rows_of_terms marks) n b r w h ∙ x.law w) (row_law (rows_of_terms marks) n b s w i ∙ y.law w);
 }
 
 -- a part that may be missing; the other row reads nothing, and makes what stands for it
-pub may_says : {A : Type 0} {n : ℕ} {f : Phrase A} (b : ℕ) (a : Ahead) (r s : ℕ) (near : Bool) (e : Option A → Parts → Parts) → r < b → s < b → ((k : Kind) → begins a k ≡ starts heads f k) → Says n r (row_of r) f (λ x. e (Some x)) → ((w : Work) → pieces_in term_rows n s (row_of s) w ≡ changed (e None) w) → Says n b (piece.Choice a r s ∷ []) (may near f) e
-may_says {n = n} {f = f} b a r s near e h i k x y = record {
+pub may_says : {marks : Bool} {A : Type 0} {n : ℕ} {f : Phrase A} (b : ℕ) (a : Ahead) (r s : ℕ) (near : Bool) (e : Option A → Parts → Parts) → r < b → s < b → ((k : Kind) → begins a k ≡ starts heads f k) → SaysBy marks n r (row_in_table marks r) f (λ x. e (Some x)) → ((w : Work) → pieces_in (rows_of_terms marks) n s (row_in_table marks s) w ≡ changed (e None) w) → SaysBy marks n b (piece.Choice a r s ∷ []) (may near f) e
+may_says {marks = marks} {n = n} {f = f} b a r s near e h i k x y = record {
   law = λ w.
-      then_nothing (chosen (next_is (begins a) w.rest) (row_in term_rows n b r) (row_in term_rows n b s) w)
-      ∙ chosen_put (next_is (begins a) w.rest) (next_is (starts heads f) w.rest) (row_in term_rows n b r) (row_in term_rows n b s) e w (λ us. read_in n f us >>= mapped Some) (nothing None)
+      then_nothing (chosen (next_is (begins a) w.rest) (row_in (rows_of_terms marks) n b r) (row_in (rows_of_terms marks) n b s) w)
+      ∙ chosen_put (next_is (begins a) w.rest) (next_is (starts heads f) w.rest) (row_in (rows_of_terms marks) n b r) (row_in (rows_of_terms marks) n b s) e w (λ us. read_by (rule_of marks) n f us >>= mapped Some) (nothing None)
       (next_same (begins a) (starts heads f) k w.rest)
-      (row_law term_rows n b r w h ∙ (x.law w ∙ put_mapped Some e w (read_in n f w.rest)))
-      (row_law term_rows n b s w i ∙ (y w ∙ ap (λ us. let v : Result Work Fault = Ok (record { parts = e None w.parts; uses = us; rest = w.rest }) in v) (sym (append-nil w.uses))));
+      (row_law (rows_of_terms marks) n b r w h ∙ (x.law w ∙ put_mapped Some e w (read_by (rule_of marks) n f w.rest)))
+      (row_law (rows_of_terms marks) n b s w i ∙ (y w ∙ ap (λ us. let v : Result Work Fault = Ok (record { parts = e None w.parts; uses = us; rest = w.rest }) in v) (sym (append-nil w.uses))));
 }
 
-pub level_says : {A : Type 0} {n : ℕ} {f : Phrase A} {e : A → Parts → Parts} (b : ℕ) (a : Ahead) (r : ℕ) → r < b → ((k : Kind) → begins a k ≡ starts heads f k) → Says n r (row_of r) f e → Says n b (piece.Level a r ∷ []) (level f) e
-level_says {n = n} {f = f} {e = e} b a r h k s = record {
+-- the mark that may stand behind a name, and the head that it chooses
+
+abbrev pub marked_head : Naming → Naming → Option (Unit {0}) → Naming
+marked_head g h (Some u) = g
+marked_head g h None = h
+
+pub marked_says : {marks : Bool} (n b : ℕ) (m : Mark) (g h : Naming) → SaysBy marks n b (piece.Marked m g h ∷ []) (may false (sign m)) (λ o. named (marked_head g h o))
+marked_says n b m g h = record {
   law = λ w.
-      then_nothing (chosen (positive n) (row_in term_rows n b r) (refused a) w)
-      ∙ chosen_put (positive n) (positive n) (row_in term_rows n b r) (refused a) e w (read_in n f) (pick (next_is (starts heads f) w.rest) no_level no_syntax)
-      refl (row_law term_rows n b r w h ∙ s.law w) (refused_put (next_is (begins a) w.rest) (next_is (starts heads f) w.rest) e w (next_same (begins a) (starts heads f) k w.rest));
+      then_nothing (marked m g h w)
+      ∙ chosen_put (next_is (is_mark m) w.rest) (next_is (is_mark m) w.rest) (λ v. and_then (put made_no_part v (read_sign m v.rest)) (changed (named g))) (changed (named h)) (λ o. named (marked_head g h o)) w (λ us. read_sign m us >>= mapped Some) (nothing None)
+      refl
+      (put_changed (named g) made_no_part w (read_sign m w.rest) ∙ put_mapped Some (λ o. named (marked_head g h o)) w (read_sign m w.rest))
+      (ap (λ us. let v : Result Work Fault = Ok (record { parts = named h w.parts; uses = us; rest = w.rest }) in v) (sym (append-nil w.uses)));
+}
+
+pub level_says : {marks : Bool} {A : Type 0} {n : ℕ} {f : Phrase A} {e : A → Parts → Parts} (b : ℕ) (a : Ahead) (r : ℕ) → r < b → ((k : Kind) → begins a k ≡ starts heads f k) → SaysBy marks n r (row_in_table marks r) f e → SaysBy marks n b (piece.Level a r ∷ []) (level f) e
+level_says {marks = marks} {n = n} {f = f} {e = e} b a r h k s = record {
+  law = λ w.
+      then_nothing (chosen (positive n) (row_in (rows_of_terms marks) n b r) (refused a) w)
+      ∙ chosen_put (positive n) (positive n) (row_in (rows_of_terms marks) n b r) (refused a) e w (read_by (rule_of marks) n f) (pick (next_is (starts heads f) w.rest) no_level no_syntax)
+      refl (row_law (rows_of_terms marks) n b r w h ∙ s.law w) (refused_put (next_is (begins a) w.rest) (next_is (starts heads f) w.rest) e w (next_same (begins a) (starts heads f) k w.rest));
 }
 
 -- one level down
 
-pub record IsBelow (n : ℕ) (a : Ahead) (r : ℕ) (s : Sort) (e : Tree → Parts → Parts) : Type 0 where
-  pub law : (w : Work) → below_step term_rows n a r w ≡ put e w (below n s w.rest)
+pub record IsBelowBy (marks : Bool) (n : ℕ) (a : Ahead) (r : ℕ) (s : Sort) (e : Tree → Parts → Parts) : Type 0 where
+  pub law : (w : Work) → below_step (rows_of_terms marks) n a r w ≡ put e w (below_by (rule_of marks) n s w.rest)
 
-pub deeper_says : {n : ℕ} {s : Sort} {e : Tree → Parts → Parts} (b : ℕ) (a : Ahead) (r : ℕ) → IsBelow n a r s e → Says n b (piece.Deeper a r ∷ []) (deeper s) e
-deeper_says {n = n} b a r h = record { law = λ w. then_nothing (below_step term_rows n a r w) ∙ h.law w }
+abbrev pub IsBelow : ℕ → Ahead → ℕ → Sort → (Tree → Parts → Parts) → Type 0
+IsBelow n a r s e = IsBelowBy false n a r s e
 
-pub none_below : (a : Ahead) (r : ℕ) (s : Sort) (e : Tree → Parts → Parts) → ((k : Kind) → begins a k ≡ heads s k) → IsBelow 0 a r s e
+pub deeper_says : {marks : Bool} {n : ℕ} {s : Sort} {e : Tree → Parts → Parts} (b : ℕ) (a : Ahead) (r : ℕ) → IsBelowBy marks n a r s e → SaysBy marks n b (piece.Deeper a r ∷ []) (deeper s) e
+deeper_says {marks = marks} {n = n} b a r h = record { law = λ w. then_nothing (below_step (rows_of_terms marks) n a r w) ∙ h.law w }
+
+pub none_below : {marks : Bool} (a : Ahead) (r : ℕ) (s : Sort) (e : Tree → Parts → Parts) → ((k : Kind) → begins a k ≡ heads s k) → IsBelowBy marks 0 a r s e
 none_below a r s e h = record { law = λ w. refused_put (next_is (begins a) w.rest) (next_is (heads s) w.rest) e w (next_same (begins a) (heads s) h w.rest) }
 
 -- lists
@@ -234,53 +258,53 @@ one_more_put c e k w x (Ok y) =
     ap₂ (λ j us. let v : Result Work Fault = Ok (record { parts = closed c j (each e y.value (e x.value w.parts)); uses = us; rest = y.rest }) in v) i (append_assoc w.uses x.uses y.uses)
 one_more_put c e k w x (Err f) = refl
 
-more_says : {A : Type 0} (n b : ℕ) (c : Closing) (m : Mark) (r : ℕ) (f : Phrase A) (e : A → Parts → Parts) → ((w : Work) → row_in term_rows n b r w ≡ put e w (read_in n f w.rest)) → (turns k : ℕ) (w : Work) → more c m (row_in term_rows n b r) turns k w ≡ put (listed_parts c e k) w (read_many (starts heads (m ▸ f)) (read_in n (m ▸ f)) turns w.rest)
-more_says n b c m r f e h zero k w = none_more c e k w
-more_says {A} n b c m r f e h (suc turns) k w =
+more_says : (marks : Bool) {A : Type 0} (n b : ℕ) (c : Closing) (m : Mark) (r : ℕ) (f : Phrase A) (e : A → Parts → Parts) → ((w : Work) → row_in (rows_of_terms marks) n b r w ≡ put e w (read_by (rule_of marks) n f w.rest)) → (turns k : ℕ) (w : Work) → more c m (row_in (rows_of_terms marks) n b r) turns k w ≡ put (listed_parts c e k) w (read_many (starts heads (m ▸ f)) (read_by (rule_of marks) n (m ▸ f)) turns w.rest)
+more_says marks n b c m r f e h zero k w = none_more c e k w
+more_says marks {A = A} n b c m r f e h (suc turns) k w =
     chosen_put (next_is (is_mark m) w.rest) (next_is (starts heads (m ▸ f)) w.rest)
-    (λ v. and_then (and_then (put made_no_part v (read_sign m v.rest)) (row_in term_rows n b r)) (more c m (row_in term_rows n b r) turns (k + 1))) (changed (closed c k))
+    (λ v. and_then (and_then (put made_no_part v (read_sign m v.rest)) (row_in (rows_of_terms marks) n b r)) (more c m (row_in (rows_of_terms marks) n b r) turns (k + 1))) (changed (closed c k))
     (listed_parts c e k) w
-    (λ us. read_in n (m ▸ f) us >>= λ x. read_many (starts heads (m ▸ f)) (read_in n (m ▸ f)) turns x.rest >>= one_more x) (nothing [])
+    (λ us. read_by (rule_of marks) n (m ▸ f) us >>= λ x. read_many (starts heads (m ▸ f)) (read_by (rule_of marks) n (m ▸ f)) turns x.rest >>= one_more x) (nothing [])
     (next_same (is_mark m) (starts heads (m ▸ f)) (λ j. refl) w.rest)
-    (ap (λ y. and_then y (more c m (row_in term_rows n b r) turns (k + 1))) (put_both made_no_part e w (read_sign m w.rest) (row_in term_rows n b r) (read_in n f) h ∙ put_mapped (λ (p : Unit {0} × A). p.1) e w (read_in n (sign m & f) w.rest))
-    ∙ go (read_in n (m ▸ f) w.rest) (λ v. more_says n b c m r f e h turns (k + 1) v))
+    (ap (λ y. and_then y (more c m (row_in (rows_of_terms marks) n b r) turns (k + 1))) (put_both made_no_part e w (read_sign m w.rest) (row_in (rows_of_terms marks) n b r) (read_by (rule_of marks) n f) h ∙ put_mapped (λ (p : Unit {0} × A). p.1) e w (read_by (rule_of marks) n (sign m & f) w.rest))
+    ∙ go (read_by (rule_of marks) n (m ▸ f) w.rest) (λ v. more_says marks n b c m r f e h turns (k + 1) v))
     (none_more c e k w)
   where
-    go : (s : Read Role A) → ((v : Work) → more c m (row_in term_rows n b r) turns (k + 1) v ≡ put (listed_parts c e (k + 1)) v (read_many (starts heads (m ▸ f)) (read_in n (m ▸ f)) turns v.rest)) → and_then (put e w s) (more c m (row_in term_rows n b r) turns (k + 1)) ≡ put (listed_parts c e k) w (s >>= λ x. read_many (starts heads (m ▸ f)) (read_in n (m ▸ f)) turns x.rest >>= one_more x)
+    go : (s : Read Role A) → ((v : Work) → more c m (row_in (rows_of_terms marks) n b r) turns (k + 1) v ≡ put (listed_parts c e (k + 1)) v (read_many (starts heads (m ▸ f)) (read_by (rule_of marks) n (m ▸ f)) turns v.rest)) → and_then (put e w s) (more c m (row_in (rows_of_terms marks) n b r) turns (k + 1)) ≡ put (listed_parts c e k) w (s >>= λ x. read_many (starts heads (m ▸ f)) (read_by (rule_of marks) n (m ▸ f)) turns x.rest >>= one_more x)
     go (Ok x) i =
         i (record { parts = e x.value w.parts; uses = w.uses ++ x.uses; rest = x.rest })
-        ∙ one_more_put c e k w x (read_many (starts heads (m ▸ f)) (read_in n (m ▸ f)) turns x.rest)
+        ∙ one_more_put c e k w x (read_many (starts heads (m ▸ f)) (read_by (rule_of marks) n (m ▸ f)) turns x.rest)
     go (Err y) i = refl
 
 -- an item, and others behind a symbol, with what closes the list
-pub items_says : {A : Type 0} {n : ℕ} {f : Phrase A} {e : A → Parts → Parts} (b : ℕ) (near : Bool) (c : Closing) (m : Mark) (r : ℕ) (d : List A → Parts → Parts) → r < b → ((l : List A) (q : Parts) → closed c (length l) (each e l q) ≡ d l q) → Says n r (row_of r) f e → Says n b (piece.List c m r ∷ []) (f & many near (m ▸ f)) (λ p. d (p.0 ∷ p.1))
-items_says {A} {n = n} {f = f} {e = e} b near c m r d h k s = same_says (λ p. d (p.0 ∷ p.1)) closes one where
-  row_is : (w : Work) → row_in term_rows n b r w ≡ put e w (read_in n f w.rest)
-  row_is w = row_law term_rows n b r w h ∙ s.law w
+pub items_says : {marks : Bool} {A : Type 0} {n : ℕ} {f : Phrase A} {e : A → Parts → Parts} (b : ℕ) (near : Bool) (c : Closing) (m : Mark) (r : ℕ) (d : List A → Parts → Parts) → r < b → ((l : List A) (q : Parts) → closed c (length l) (each e l q) ≡ d l q) → SaysBy marks n r (row_in_table marks r) f e → SaysBy marks n b (piece.List c m r ∷ []) (f & many near (m ▸ f)) (λ p. d (p.0 ∷ p.1))
+items_says {marks = marks} {A = A} {n = n} {f = f} {e = e} b near c m r d h k s = same_says (λ p. d (p.0 ∷ p.1)) closes one where
+  row_is : (w : Work) → row_in (rows_of_terms marks) n b r w ≡ put e w (read_by (rule_of marks) n f w.rest)
+  row_is w = row_law (rows_of_terms marks) n b r w h ∙ s.law w
 
   closes : (p : A × List A) (q : Parts) → listed_parts c e 1 p.1 (e p.0 q) ≡ d (p.0 ∷ p.1) q
   closes p q =
       let i : length p.1 + 1 ≡ length (p.0 ∷ p.1) = omega arith in
       ap (λ j. closed c j (each e (p.0 ∷ p.1) q)) i ∙ k (p.0 ∷ p.1) q
 
-  one : Says n b (piece.List c m r ∷ []) (f & many near (m ▸ f)) (λ p q. listed_parts c e 1 p.1 (e p.0 q))
+  one : SaysBy marks n b (piece.List c m r ∷ []) (f & many near (m ▸ f)) (λ p q. listed_parts c e 1 p.1 (e p.0 q))
   one = record {
     law = λ w.
-        then_nothing (and_then (row_in term_rows n b r w) (λ v. more c m (row_in term_rows n b r) (length v.rest) 1 v))
-        ∙ (ap (λ x. and_then x (λ v. more c m (row_in term_rows n b r) (length v.rest) 1 v)) (row_is w)
-        ∙ put_both e (listed_parts c e 1) w (read_in n f w.rest) (λ v. more c m (row_in term_rows n b r) (length v.rest) 1 v) (read_in n (many near (m ▸ f))) (λ v. more_says n b c m r f e row_is (length v.rest) 1 v));
+        then_nothing (and_then (row_in (rows_of_terms marks) n b r w) (λ v. more c m (row_in (rows_of_terms marks) n b r) (length v.rest) 1 v))
+        ∙ (ap (λ x. and_then x (λ v. more c m (row_in (rows_of_terms marks) n b r) (length v.rest) 1 v)) (row_is w)
+        ∙ put_both e (listed_parts c e 1) w (read_by (rule_of marks) n f w.rest) (λ v. more c m (row_in (rows_of_terms marks) n b r) (length v.rest) 1 v) (read_by (rule_of marks) n (many near (m ▸ f))) (λ v. more_says marks n b c m r f e row_is (length v.rest) 1 v));
   }
 
-pub some_says : {A : Type 0} {n : ℕ} {f : Phrase A} {e : A → Parts → Parts} (b : ℕ) (c : Closing) (m : Mark) (r : ℕ) (d : List A → Parts → Parts) → r < b → ((l : List A) (q : Parts) → closed c (length l) (each e l q) ≡ d l q) → Says n r (row_of r) f e → Says n b (piece.List c m r ∷ []) (row m f) d
+pub some_says : {marks : Bool} {A : Type 0} {n : ℕ} {f : Phrase A} {e : A → Parts → Parts} (b : ℕ) (c : Closing) (m : Mark) (r : ℕ) (d : List A → Parts → Parts) → r < b → ((l : List A) (q : Parts) → closed c (length l) (each e l q) ≡ d l q) → SaysBy marks n r (row_in_table marks r) f e → SaysBy marks n b (piece.List c m r ∷ []) (row m f) d
 some_says b c m r d h k s = made_says (λ (a, l). a ∷ l) d (items_says b false c m r d h k s)
 
-pub list_says : {A : Type 0} {n : ℕ} {f : Phrase A} {e : A → Parts → Parts} (b : ℕ) (c : Closing) (m : Mark) (r : ℕ) (t : List A → Tree) → r < b → ((l : List A) (q : Parts) → closed c (length l) (each e l q) ≡ grows (t l) q) → Says n r (row_of r) f e → Says n b (piece.List c m r ∷ []) (made t (row m f)) grows
+pub list_says : {marks : Bool} {A : Type 0} {n : ℕ} {f : Phrase A} {e : A → Parts → Parts} (b : ℕ) (c : Closing) (m : Mark) (r : ℕ) (t : List A → Tree) → r < b → ((l : List A) (q : Parts) → closed c (length l) (each e l q) ≡ grows (t l) q) → SaysBy marks n r (row_in_table marks r) f e → SaysBy marks n b (piece.List c m r ∷ []) (made t (row m f)) grows
 list_says b c m r t h k s = made_says t grows (some_says b c m r (λ l. grows (t l)) h k s)
 
 -- nothing, or others behind a symbol
-pub many_says : {A : Type 0} {n : ℕ} {f : Phrase A} {e : A → Parts → Parts} (b : ℕ) (near : Bool) (c : Closing) (m : Mark) (r : ℕ) (d : List A → Parts → Parts) → r < b → ((l : List A) (q : Parts) → closed c (length l) (each e l q) ≡ d l q) → Says n r (row_of r) f e → Says n b (piece.Many c m r ∷ []) (many near (m ▸ f)) d
-many_says {A} {n = n} {f = f} {e = e} b near c m r d h k s = same_says d closes (record {
-  law = λ w. then_nothing (more c m (row_in term_rows n b r) (length w.rest) 0 w) ∙ more_says n b c m r f e (λ v. row_law term_rows n b r v h ∙ s.law v) (length w.rest) 0 w;
+pub many_says : {marks : Bool} {A : Type 0} {n : ℕ} {f : Phrase A} {e : A → Parts → Parts} (b : ℕ) (near : Bool) (c : Closing) (m : Mark) (r : ℕ) (d : List A → Parts → Parts) → r < b → ((l : List A) (q : Parts) → closed c (length l) (each e l q) ≡ d l q) → SaysBy marks n r (row_in_table marks r) f e → SaysBy marks n b (piece.Many c m r ∷ []) (many near (m ▸ f)) d
+many_says {marks = marks} {A = A} {n = n} {f = f} {e = e} b near c m r d h k s = same_says d closes (record {
+  law = λ w. then_nothing (more c m (row_in (rows_of_terms marks) n b r) (length w.rest) 0 w) ∙ more_says marks n b c m r f e (λ v. row_law (rows_of_terms marks) n b r v h ∙ s.law v) (length w.rest) 0 w;
 }) where
   closes : (l : List A) (q : Parts) → listed_parts c e 0 l q ≡ d l q
   closes l q =
@@ -345,8 +369,11 @@ abbrev pub IsMaybeTail : Option (Tree → Tree) → Type 0
 IsMaybeTail None = Unit {0}
 IsMaybeTail (Some h) = IsTail h
 
-pub record AllTails (n : ℕ) (g : Phrase (Tree → Tree)) : Type 0 where
-  pub law : (ts : List Sign) (x : Found Role (Tree → Tree)) → read_in n g ts ≡ Ok x → IsTail x.value
+pub record AllTailsBy (marks : Bool) (n : ℕ) (g : Phrase (Tree → Tree)) : Type 0 where
+  pub law : (ts : List Sign) (x : Found Role (Tree → Tree)) → read_by (rule_of marks) n g ts ≡ Ok x → IsTail x.value
+
+abbrev pub AllTails : ℕ → Phrase (Tree → Tree) → Type 0
+AllTails n g = AllTailsBy false n g
 
 abbrev value_or : {A : Type 0} → A → Read Role A → A
 value_or a (Ok x) = x.value
@@ -370,28 +397,28 @@ second_all {A} {B} (Ok x) q y P h i = go (q x.rest) refl i where
   go (Err e) j k = absurd (cc)
 second_all (Err e) q y P h i = absurd (cc)
 
-pub made_tails : {B : Type 0} {n : ℕ} {g : Phrase B} (v : B → Tree → Tree) → ((b : B) → IsTail (v b)) → AllTails n (made v g)
-made_tails {n = n} {g = g} v h = record { law = λ ts x i. mapped_all v (read_in n g ts) x IsTail (λ y j. h y.value) i }
+pub made_tails : {marks : Bool} {B : Type 0} {n : ℕ} {g : Phrase B} (v : B → Tree → Tree) → ((b : B) → IsTail (v b)) → AllTailsBy marks n (made v g)
+made_tails {marks = marks} {n = n} {g = g} v h = record { law = λ ts x i. mapped_all v (read_by (rule_of marks) n g ts) x IsTail (λ y j. h y.value) i }
 
-pub either_tails : {n : ℕ} {f g : Phrase (Tree → Tree)} → AllTails n f → AllTails n g → AllTails n (either f g)
-either_tails {n = n} {f = f} {g = g} s t = record { law = λ ts x i. pick_all (next_is (starts heads f) ts) (read_in n f) (read_in n g) ts x IsTail (s.law ts x) (t.law ts x) i }
+pub either_tails : {marks : Bool} {n : ℕ} {f g : Phrase (Tree → Tree)} → AllTailsBy marks n f → AllTailsBy marks n g → AllTailsBy marks n (either f g)
+either_tails {marks = marks} {n = n} {f = f} {g = g} s t = record { law = λ ts x i. pick_all (next_is (starts heads f) ts) (read_by (rule_of marks) n f) (read_by (rule_of marks) n g) ts x IsTail (s.law ts x) (t.law ts x) i }
 
-maybe_tails : {n : ℕ} {g : Phrase (Tree → Tree)} → AllTails n g → (ts : List Sign) (x : Found Role (Option (Tree → Tree))) → read_in n (may false g) ts ≡ Ok x → IsMaybeTail x.value
-maybe_tails {n = n} {g = g} s ts x i =
-    pick_all (next_is (starts heads g) ts) (λ us. read_in n g us >>= mapped Some) (nothing None) ts x IsMaybeTail
-    (λ j. mapped_all Some (read_in n g ts) x IsMaybeTail (s.law ts) j)
+maybe_tails : {marks : Bool} {n : ℕ} {g : Phrase (Tree → Tree)} → AllTailsBy marks n g → (ts : List Sign) (x : Found Role (Option (Tree → Tree))) → read_by (rule_of marks) n (may false g) ts ≡ Ok x → IsMaybeTail x.value
+maybe_tails {marks = marks} {n = n} {g = g} s ts x i =
+    pick_all (next_is (starts heads g) ts) (λ us. read_by (rule_of marks) n g us >>= mapped Some) (nothing None) ts x IsMaybeTail
+    (λ j. mapped_all Some (read_by (rule_of marks) n g ts) x IsMaybeTail (s.law ts) j)
     (λ j. subst IsMaybeTail (from_ok (record { value = None; uses = []; rest = ts }) x j) tt) i
 
 after_made : (t : Tree) (o : Option (Tree → Tree)) (q : Parts) → IsMaybeTail o → maybe_joins o (grows t q) ≡ grows (after t o) q
 after_made t None q h = refl
 after_made t (Some g) q h = adds_more (tail_parts g) (postorder t) q ∙ ap (λ l. adds l q) (sym (h t))
 
-pub after_says : {n b : ℕ} {f : Phrase Tree} {g : Phrase (Tree → Tree)} (ps qs : List Piece) → Says n b ps f grows → Says n b qs (may false g) maybe_joins → AllTails n g → Says n b (ps ++ qs) (made (λ (t, f). after t f) (f & may false g)) grows
-after_says {n = n} {b = b} {f = f} {g = g} ps qs s t a = made_says (λ (t, f). after t f) grows (record {
+pub after_says : {marks : Bool} {n b : ℕ} {f : Phrase Tree} {g : Phrase (Tree → Tree)} (ps qs : List Piece) → SaysBy marks n b ps f grows → SaysBy marks n b qs (may false g) maybe_joins → AllTailsBy marks n g → SaysBy marks n b (ps ++ qs) (made (λ (t, f). after t f) (f & may false g)) grows
+after_says {marks = marks} {n = n} {b = b} {f = f} {g = g} ps qs s t a = made_says (λ (t, f). after t f) grows (record {
   law = λ w.
       (both_says ps qs s t).law w
-      ∙ put_same (λ (c : Tree × Option (Tree → Tree)) q. maybe_joins c.1 (grows c.0 q)) (λ c. grows (after c.0 c.1)) w (read_in n (f & may false g) w.rest)
-      (λ x i. after_made x.value.0 x.value.1 w.parts (second_all (read_in n f w.rest) (read_in n (may false g)) x IsMaybeTail (maybe_tails a) i));
+      ∙ put_same (λ (c : Tree × Option (Tree → Tree)) q. maybe_joins c.1 (grows c.0 q)) (λ c. grows (after c.0 c.1)) w (read_by (rule_of marks) n (f & may false g) w.rest)
+      (λ x i. after_made x.value.0 x.value.1 w.parts (second_all (read_by (rule_of marks) n f w.rest) (read_by (rule_of marks) n (may false g)) x IsMaybeTail (maybe_tails a) i));
 })
 
 -- a tail, or what another choice reads
@@ -415,24 +442,24 @@ pub next_or : (p q : Kind → Bool) (ts : List Sign) → next_is (λ k. p k || q
 next_or p q [] = refl
 next_or p q (t ∷ ts) = refl
 
-either_may : {A : Type 0} (n : ℕ) (near : Bool) (f g : Phrase A) (ts : List Sign) → read_in n (may near (either f g)) ts ≡ pick (next_is (starts heads f) ts) (λ us. read_in n f us >>= mapped Some) (read_in n (may near g)) ts
-either_may n near f g ts =
+either_may : (marks : Bool) {A : Type 0} (n : ℕ) (near : Bool) (f g : Phrase A) (ts : List Sign) → read_by (rule_of marks) n (may near (either f g)) ts ≡ pick (next_is (starts heads f) ts) (λ us. read_by (rule_of marks) n f us >>= mapped Some) (read_by (rule_of marks) n (may near g)) ts
+either_may marks n near f g ts =
     let b = next_is (starts heads f) ts in
     let c = next_is (starts heads g) ts in
-    let x = read_in n f ts in
-    let y = read_in n g ts in
-    pick_is (next_is (starts heads (either f g)) ts) (λ us. read_in n (either f g) us >>= mapped Some) (nothing None) ts
-    ∙ (ap₂ (λ d r. sel d (r >>= mapped Some) (found None [] ts)) (next_or (starts heads f) (starts heads g) ts) (pick_is b (read_in n f) (read_in n g) ts)
+    let x = read_by (rule_of marks) n f ts in
+    let y = read_by (rule_of marks) n g ts in
+    pick_is (next_is (starts heads (either f g)) ts) (λ us. read_by (rule_of marks) n (either f g) us >>= mapped Some) (nothing None) ts
+    ∙ (ap₂ (λ d r. sel d (r >>= mapped Some) (found None [] ts)) (next_or (starts heads f) (starts heads g) ts) (pick_is b (read_by (rule_of marks) n f) (read_by (rule_of marks) n g) ts)
     ∙ (sel_or b c x y (found None [] ts)
-    ∙ (ap (λ r. sel b (x >>= mapped Some) r) (sym (pick_is c (λ us. read_in n g us >>= mapped Some) (nothing None) ts)) ∙ sym (pick_is b (λ us. read_in n f us >>= mapped Some) (read_in n (may near g)) ts))))
+    ∙ (ap (λ r. sel b (x >>= mapped Some) r) (sym (pick_is c (λ us. read_by (rule_of marks) n g us >>= mapped Some) (nothing None) ts)) ∙ sym (pick_is b (λ us. read_by (rule_of marks) n f us >>= mapped Some) (read_by (rule_of marks) n (may near g)) ts))))
 
-pub either_may_says : {A : Type 0} {n : ℕ} {f g : Phrase A} (b : ℕ) (a : Ahead) (r s : ℕ) (near : Bool) (e : Option A → Parts → Parts) → r < b → s < b → ((k : Kind) → begins a k ≡ starts heads f k) → Says n r (row_of r) f (λ x. e (Some x)) → Says n s (row_of s) (may near g) e → Says n b (piece.Choice a r s ∷ []) (may near (either f g)) e
-either_may_says {n = n} {f = f} {g = g} b a r s near e h i k x y = record {
+pub either_may_says : {marks : Bool} {A : Type 0} {n : ℕ} {f g : Phrase A} (b : ℕ) (a : Ahead) (r s : ℕ) (near : Bool) (e : Option A → Parts → Parts) → r < b → s < b → ((k : Kind) → begins a k ≡ starts heads f k) → SaysBy marks n r (row_in_table marks r) f (λ x. e (Some x)) → SaysBy marks n s (row_in_table marks s) (may near g) e → SaysBy marks n b (piece.Choice a r s ∷ []) (may near (either f g)) e
+either_may_says {marks = marks} {n = n} {f = f} {g = g} b a r s near e h i k x y = record {
   law = λ w.
-      then_nothing (chosen (next_is (begins a) w.rest) (row_in term_rows n b r) (row_in term_rows n b s) w)
-      ∙ (chosen_put (next_is (begins a) w.rest) (next_is (starts heads f) w.rest) (row_in term_rows n b r) (row_in term_rows n b s) e w (λ us. read_in n f us >>= mapped Some) (read_in n (may near g))
+      then_nothing (chosen (next_is (begins a) w.rest) (row_in (rows_of_terms marks) n b r) (row_in (rows_of_terms marks) n b s) w)
+      ∙ (chosen_put (next_is (begins a) w.rest) (next_is (starts heads f) w.rest) (row_in (rows_of_terms marks) n b r) (row_in (rows_of_terms marks) n b s) e w (λ us. read_by (rule_of marks) n f us >>= mapped Some) (read_by (rule_of marks) n (may near g))
       (next_same (begins a) (starts heads f) k w.rest)
-      (row_law term_rows n b r w h ∙ (x.law w ∙ put_mapped Some e w (read_in n f w.rest)))
-      (row_law term_rows n b s w i ∙ y.law w)
-      ∙ ap (put e w) (sym (either_may n near f g w.rest)));
+      (row_law (rows_of_terms marks) n b r w h ∙ (x.law w ∙ put_mapped Some e w (read_by (rule_of marks) n f w.rest)))
+      (row_law (rows_of_terms marks) n b s w i ∙ y.law w)
+      ∙ ap (put e w) (sym (either_may marks n near f g w.rest)));
 }

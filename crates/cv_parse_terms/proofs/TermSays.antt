@@ -1,5 +1,5 @@
 -- The rows of terms read what the forms of the grammar read.
-use Rattle.std.proofs.Common.{◌≡◌, ℕ, zero, suc, ◌+◌, ◌<◌, false, List, [], ◌∷◌, ◌++◌, refl, ap, sym, ◌∙◌, lit<, append_assoc, Option, Some, None}
+use Rattle.std.proofs.Common.{◌≡◌, ℕ, zero, suc, ◌+◌, ◌<◌, Bool, true, false, List, [], ◌∷◌, ◌++◌, refl, ap, sym, ◌∙◌, lit<, append_assoc, Option, Some, None}
 use Rattle.cv_syntax_trees.specs.Tree.{Tree, Empty, Node, lone, chain, binders}
 use Rattle.cv_syntax_trees.specs.declared.head.Head.{Head}
 use Rattle.cv_syntax_trees.specs.declared.head.Head.TheVariants as head
@@ -13,33 +13,38 @@ use Rattle.cv_parse_notation.specs.Form.{sign, may, made, level, deeper, ◌&◌
 use Rattle.cv_parse_grammar.specs.declared.role.Asked.TheVariants.{AType}
 use Rattle.cv_parse_grammar.specs.declared.role.Role.{Role}
 use Rattle.cv_parse_grammar.specs.declared.role.Role.TheVariants.{Asks, Mentions, AsCall, AsArray, AsBare, MentionsCell, BindsLocal, BindsVariable}
+use Rattle.cv_parse_grammar.specs.Marks.{alone_of, bare_name, conjunction_of, equality_of, mention_of, primary_of, rule_of, term_of}
 use Rattle.cv_parse_grammar.specs.Phrases.{Sort, Phrase, Term, Conjunction, Primary, Unequal, Arguments, Subscript, Parentheses, Cells, OneCell, or_else, listed, type_name, typed, vars, var_list}
 use Rattle.cv_parse_grammar.specs.Rules.{heads, rule}
-use Rattle.cv_parse_grammar.specs.Terms.{yes, terms, arguments, subscript, parentheses, called, indexed, alone, mention, negation, primary, unequal, unequal_to, equality, conjunction, term, cell_of, cell, cells, defined_condition, plain_condition, condition}
+use Rattle.cv_parse_grammar.specs.Terms.{yes, terms, arguments, subscript, parentheses, called, indexed, negation, unequal, unequal_to, cell_of, cell, cells, defined_condition, plain_condition, condition}
 use Rattle.cv_parse_terms.specs.declared.piece.Ahead.{Ahead}
 use Rattle.cv_parse_terms.specs.declared.piece.Ahead.TheVariants as ahead
 use Rattle.cv_parse_terms.specs.declared.piece.Naming.TheVariants as naming
 use Rattle.cv_parse_terms.specs.declared.piece.Closing.TheVariants as closing
 use Rattle.cv_parse_terms.specs.declared.piece.Piece.{Piece}
 use Rattle.cv_parse_terms.specs.declared.piece.Piece.TheVariants as piece
-use Rattle.cv_parse_terms.specs.Gives.{parts_of_both}
+use Rattle.cv_parse_terms.specs.Gives.{parts_of_both, read_by}
 use Rattle.cv_parse_terms.specs.Tables.{Parts, Work, begins, changed, last_name, made_no_part, named, other_names, part, put, waits}
-use Rattle.cv_parse_terms.specs.TermRows.{row_count, row_of, term_rows}
+use Rattle.cv_parse_terms.specs.TermRows.{row_count, row_in_table, row_of, rows_of_terms}
+use Rattle.cv_parse_grammar.proofs.Marks.{arguments_row, cell_row, cells_row, conjunction_row, parentheses_row, primary_row, subscript_row, term_row, unequal_row}
 use Rattle.cv_parse_terms.proofs.Levels.{below_is as sort_below}
 use Rattle.cv_parse_terms.proofs.Walks.{row_law}
-use Rattle.cv_parse_terms.proofs.Saying.{AllTails, IsBelow, Says, adds, after_says, between, binders_close, both_says, both_wait, chain_closes, deeper_says, either_may_says, either_says, either_tails, grows, head_behind, item_waits, joins, level_says, list_says, made_says, made_tails, may_says, maybe_joins, none_below, note_says, part_before, part_behind, row_says, same_says, sign_before, sign_says, value_behind, word_says}
+use Rattle.cv_parse_terms.proofs.Saying.{AllTailsBy, IsBelow, IsBelowBy, Says, SaysBy, adds, after_says, between, binders_close, both_says, both_wait, chain_closes, deeper_says, either_may_says, either_says, either_tails, grows, head_behind, item_waits, joins, level_says, list_says, made_says, marked_head, marked_says, made_tails, may_says, maybe_joins, none_below, note_says, part_before, part_behind, row_says, same_says, sign_before, sign_says, value_behind, word_says}
 
 -- the phrases one level down
-pub record Deep (n : ℕ) : Type 0 where
-  pub term : IsBelow n ahead.Term 37 Term grows
-  pub conjunction : IsBelow n ahead.Term 34 Conjunction grows
-  pub primary : IsBelow n ahead.Term 24 Primary grows
-  pub unequal : IsBelow n (ahead.Mark mark.Differ) 26 Unequal grows
-  pub arguments : IsBelow n (ahead.Mark mark.Open) 4 Arguments grows
-  pub subscript : IsBelow n (ahead.Mark mark.OpenSquare) 6 Subscript grows
-  pub parentheses : IsBelow n (ahead.Mark mark.Open) 8 Parentheses grows
-  pub cells : IsBelow n (ahead.Mark mark.Open) 44 Cells grows
-  pub cell : IsBelow n ahead.Word 41 OneCell grows
+pub record DeepBy (marks : Bool) (n : ℕ) : Type 0 where
+  pub term : IsBelowBy marks n ahead.Term 37 Term grows
+  pub conjunction : IsBelowBy marks n ahead.Term 34 Conjunction grows
+  pub primary : IsBelowBy marks n ahead.Term 24 Primary grows
+  pub unequal : IsBelowBy marks n (ahead.Mark mark.Differ) 26 Unequal grows
+  pub arguments : IsBelowBy marks n (ahead.Mark mark.Open) 4 Arguments grows
+  pub subscript : IsBelowBy marks n (ahead.Mark mark.OpenSquare) 6 Subscript grows
+  pub parentheses : IsBelowBy marks n (ahead.Mark mark.Open) 8 Parentheses grows
+  pub cells : IsBelowBy marks n (ahead.Mark mark.Open) 44 Cells grows
+  pub cell : IsBelowBy marks n ahead.Word 41 OneCell grows
+
+abbrev pub Deep : ℕ → Type 0
+Deep n = DeepBy false n
 
 -- parts of nodes
 
@@ -76,21 +81,29 @@ closes_name : (q : Parts) → named naming.Leaf (part Nothing (part Nothing q)) 
 unfolding postorder
 closes_name q = ap (λ x. let p : Parts = record { names = other_names q.names; makes = x } in p) (three q.makes (Nothing ∷ []) Nothing (Over (head.Leaf (last_name q.names))))
 
+closes_primed : (q : Parts) → named naming.Primed (part Nothing (part Nothing q)) ≡ behind (λ x. lone (head.Primed x)) q
+unfolding postorder
+closes_primed q = ap (λ x. let p : Parts = record { names = other_names q.names; makes = x } in p) (three q.makes (Nothing ∷ []) Nothing (Over (head.Primed (last_name q.names))))
+
+closes_bare : (o : Option (Unit {0})) (q : Parts) → named (marked_head naming.Primed naming.Leaf o) (part Nothing (part Nothing q)) ≡ behind (λ x. bare_name x o) q
+closes_bare None q = closes_name q
+closes_bare (Some u) q = closes_primed q
+
 -- lists of terms
 
-pub says_inner : (n : ℕ) → Deep n → Says n 1 (row_of 1) (deeper Term) grows
+pub says_inner : {marks : Bool} (n : ℕ) → DeepBy marks n → SaysBy marks n 1 (row_in_table marks 1) (deeper Term) grows
 says_inner n d = deeper_says 1 ahead.Term 37 d.term
 
-pub says_terms : (n : ℕ) → Deep n → Says n 2 (row_of 2) terms grows
+pub says_terms : {marks : Bool} (n : ℕ) → DeepBy marks n → SaysBy marks n 2 (row_in_table marks 2) terms grows
 says_terms n d = list_says 2 closing.Trees mark.Comma 1 chain (lit< tt) chain_closes (says_inner n d)
 
-pub says_arguments : (n : ℕ) → Deep n → Says n 4 (row_of 4) arguments grows
+pub says_arguments : {marks : Bool} (n : ℕ) → DeepBy marks n → SaysBy marks n 4 (row_in_table marks 4) arguments grows
 says_arguments n d = level_says 4 (ahead.Mark mark.Open) 3 (lit< tt) (λ k. refl) (between mark.Open mark.Close (piece.Row 2 ∷ []) (row_says 3 2 (lit< tt) (says_terms n d)))
 
-pub says_subscript : (n : ℕ) → Deep n → Says n 6 (row_of 6) subscript grows
+pub says_subscript : {marks : Bool} (n : ℕ) → DeepBy marks n → SaysBy marks n 6 (row_in_table marks 6) subscript grows
 says_subscript n d = level_says 6 (ahead.Mark mark.OpenSquare) 5 (lit< tt) (λ k. refl) (between mark.OpenSquare mark.CloseSquare (piece.Row 2 ∷ []) (row_says 5 2 (lit< tt) (says_terms n d)))
 
-says_parentheses : (n : ℕ) → Deep n → Says n 8 (row_of 8) parentheses grows
+says_parentheses : {marks : Bool} (n : ℕ) → DeepBy marks n → SaysBy marks n 8 (row_in_table marks 8) parentheses grows
 says_parentheses n d = level_says 8 (ahead.Mark mark.Open) 7 (lit< tt) (λ k. refl) (between mark.Open mark.Close (piece.Row 1 ∷ []) (row_says 7 1 (lit< tt) (says_inner n d)))
 
 -- names
@@ -101,14 +114,14 @@ call = piece.Note AsCall ∷ (piece.Deeper (ahead.Mark mark.Open) 4 ∷ [])
 abbrev index : List Piece
 index = piece.Note AsArray ∷ (piece.Deeper (ahead.Mark mark.OpenSquare) 6 ∷ [])
 
-says_called : (n : ℕ) → Deep n → Says n 9 (row_of 9) called behind
+says_called : {marks : Bool} (n : ℕ) → DeepBy marks n → SaysBy marks n 9 (row_in_table marks 9) called behind
 says_called n d =
     made_says (λ (m, l) f. Node (head.Apply f) l Empty) behind
     (same_says (λ c. behind (λ f. Node (head.Apply f) c.1 Empty)) (λ c q. closes_apply c.1 q)
     (head_behind naming.Apply (call ++ piece.Part Nothing ∷ []) (part_behind Nothing call
     (both_says (piece.Note AsCall ∷ []) (piece.Deeper (ahead.Mark mark.Open) 4 ∷ []) (note_says n 9 AsCall) (deeper_says 9 (ahead.Mark mark.Open) 4 d.arguments)))))
 
-says_indexed : (n : ℕ) → Deep n → Says n 10 (row_of 10) indexed behind
+says_indexed : {marks : Bool} (n : ℕ) → DeepBy marks n → SaysBy marks n 10 (row_in_table marks 10) indexed behind
 says_indexed n d =
     made_says (λ (m, l) x. Node (head.Read x) l Empty) behind
     (same_says (λ c. behind (λ x. Node (head.Read x) c.1 Empty)) (λ c q. closes_read c.1 q)
@@ -118,13 +131,18 @@ says_indexed n d =
 abbrev bare : List Piece
 bare = piece.Note AsBare ∷ []
 
-says_alone : (n : ℕ) → Says n 11 (row_of 11) alone behind
-says_alone n =
+says_alone : {marks : Bool} (n : ℕ) → SaysBy marks n 11 (row_in_table marks 11) (alone_of marks) behind
+says_alone {marks = false} n =
     made_says (λ m x. lone (head.Leaf x)) behind
     (same_says (λ c. behind (λ x. lone (head.Leaf x))) (λ c q. closes_name q)
     (head_behind naming.Leaf (bare ++ (piece.Part Nothing ∷ (piece.Part Nothing ∷ []))) (part_behind Nothing (bare ++ piece.Part Nothing ∷ []) (part_behind Nothing bare (note_says n 11 AsBare)))))
+says_alone {marks = true} n =
+    made_says (λ (m, o) x. bare_name x o) behind
+    (same_says (λ c. behind (λ x. bare_name x c.1)) (λ c q. closes_bare c.1 q)
+    (both_says (bare ++ (piece.Part Nothing ∷ (piece.Part Nothing ∷ []))) (piece.Marked mark.Prime naming.Primed naming.Leaf ∷ [])
+    (part_behind Nothing (bare ++ piece.Part Nothing ∷ []) (part_behind Nothing bare (note_says n 11 AsBare))) (marked_says n 11 mark.Prime naming.Primed naming.Leaf)))
 
-says_mention : (n : ℕ) → Deep n → Says n 14 (row_of 14) mention grows
+says_mention : {marks : Bool} (n : ℕ) → DeepBy marks n → SaysBy marks n 14 (row_in_table marks 14) (mention_of marks) grows
 says_mention n d =
     level_says 14 ahead.Word 13 (lit< tt) (λ k. refl)
     (made_says (λ (x, f). f x) grows
@@ -137,7 +155,7 @@ says_mention n d =
 abbrev not_one : List Piece
 not_one = piece.Sign mark.Not ∷ (piece.Deeper (ahead.Mark mark.Open) 8 ∷ [])
 
-says_negation : (n : ℕ) → Deep n → Says n 16 (row_of 16) negation grows
+says_negation : {marks : Bool} (n : ℕ) → DeepBy marks n → SaysBy marks n 16 (row_in_table marks 16) negation grows
 says_negation n d =
     level_says 16 (ahead.Mark mark.Not) 15 (lit< tt) (λ k. refl)
     (made_says (λ t. Node head.Not t Empty) grows
@@ -145,13 +163,13 @@ says_negation n d =
     (part_behind (Over head.Not) (not_one ++ piece.Part Nothing ∷ []) (part_behind Nothing not_one
     (sign_before mark.Not (piece.Deeper (ahead.Mark mark.Open) 8 ∷ []) (deeper_says 15 (ahead.Mark mark.Open) 8 d.parentheses))))))
 
-pub says_constant : (n b : ℕ) (m : Mark) (h : Head) → Says n b (piece.Sign m ∷ (piece.Part Nothing ∷ (piece.Part Nothing ∷ (piece.Part (Over h) ∷ [])))) (made (λ _. lone h) (sign m)) grows
+pub says_constant : {marks : Bool} (n b : ℕ) (m : Mark) (h : Head) → SaysBy marks n b (piece.Sign m ∷ (piece.Part Nothing ∷ (piece.Part Nothing ∷ (piece.Part (Over h) ∷ [])))) (made (λ _. lone h) (sign m)) grows
 says_constant n b m h =
     made_says (λ _. lone h) grows
     (same_says (λ _. grows (lone h)) (λ _ q. closes_leaf h q)
     (part_behind (Over h) (piece.Sign m ∷ (piece.Part Nothing ∷ (piece.Part Nothing ∷ []))) (part_behind Nothing (piece.Sign m ∷ (piece.Part Nothing ∷ [])) (part_behind Nothing (piece.Sign m ∷ []) (sign_says n b m)))))
 
-says_primary : (n : ℕ) → Deep n → Says n 24 (row_of 24) primary grows
+says_primary : {marks : Bool} (n : ℕ) → DeepBy marks n → SaysBy marks n 24 (row_in_table marks 24) (primary_of marks) grows
 says_primary n d =
     either_says 24 ahead.Word 14 23 (lit< tt) (lit< tt) (λ k. refl) (says_mention n d)
     (either_says 23 (ahead.Mark mark.Not) 16 22 (lit< tt) (lit< tt) (λ k. refl) (says_negation n d)
@@ -171,14 +189,14 @@ joined_tail : (h : Head) (r t : Tree) → postorder (joined_to h r t) ≡ postor
 unfolding postorder
 joined_tail h r t = refl
 
-pub says_joining : {n : ℕ} {s : Sort} (b : ℕ) (m : Mark) (i : ℕ) (a : Ahead) (r : ℕ) (h : Head) → i < b → Says n i (row_of i) (sign m) made_no_part → IsBelow n a r s grows → Says n b (piece.Level (ahead.Mark m) i ∷ (piece.Deeper a r ∷ (piece.Part (Over h) ∷ []))) (made (λ (x, r) l. Node h l r) (level (sign m) & deeper s)) joins
+pub says_joining : {marks : Bool} {n : ℕ} {s : Sort} (b : ℕ) (m : Mark) (i : ℕ) (a : Ahead) (r : ℕ) (h : Head) → i < b → SaysBy marks n i (row_in_table marks i) (sign m) made_no_part → IsBelowBy marks n a r s grows → SaysBy marks n b (piece.Level (ahead.Mark m) i ∷ (piece.Deeper a r ∷ (piece.Part (Over h) ∷ []))) (made (λ (x, r) l. Node h l r) (level (sign m) & deeper s)) joins
 says_joining b m i a r h l s d =
     made_says (λ (x, r) l. Node h l r) joins
     (same_says (λ c. joins (joined_to h c.1)) (λ c q. closes_tail h c.1 q)
     (part_behind (Over h) (piece.Level (ahead.Mark m) i ∷ (piece.Deeper a r ∷ []))
     (both_says (piece.Level (ahead.Mark m) i ∷ []) (piece.Deeper a r ∷ []) (level_says b (ahead.Mark m) i l (λ k. refl) s) (deeper_says b a r d))))
 
-pub joining_tails : (n : ℕ) (m : Mark) (s : Sort) (h : Head) → AllTails n (made (λ (x, r) l. Node h l r) (level (sign m) & deeper s))
+pub joining_tails : {marks : Bool} (n : ℕ) (m : Mark) (s : Sort) (h : Head) → AllTailsBy marks n (made (λ (x, r) l. Node h l r) (level (sign m) & deeper s))
 unfolding postorder
 joining_tails n m s h = made_tails (λ (x, r) l. Node h l r) (λ c t. joined_tail h c.1 t)
 
@@ -198,24 +216,24 @@ differing_tail : (r t : Tree) → postorder (differs_from r t) ≡ postorder t +
 unfolding postorder
 differing_tail r t = append_assoc (postorder t) (postorder r ++ Over head.Eq ∷ []) (Nothing ∷ (Over head.Not ∷ []))
 
-says_unequal : (n : ℕ) → Deep n → Says n 26 (row_of 26) unequal grows
+says_unequal : {marks : Bool} (n : ℕ) → DeepBy marks n → SaysBy marks n 26 (row_in_table marks 26) unequal grows
 says_unequal n d = level_says 26 (ahead.Mark mark.Differ) 25 (lit< tt) (λ k. refl) (sign_before mark.Differ (piece.Deeper ahead.Term 24 ∷ []) (deeper_says 25 ahead.Term 24 d.primary))
 
 abbrev differ : List Piece
 differ = piece.Deeper (ahead.Mark mark.Differ) 26 ∷ []
 
-says_unequal_to : (n : ℕ) → Deep n → Says n 27 (row_of 27) unequal_to joins
+says_unequal_to : {marks : Bool} (n : ℕ) → DeepBy marks n → SaysBy marks n 27 (row_in_table marks 27) unequal_to joins
 says_unequal_to n d =
     made_says (λ r l. Node head.Not (Node head.Eq l r) Empty) joins
     (same_says (λ r. joins (differs_from r)) closes_differing
     (part_behind (Over head.Not) (differ ++ (piece.Part (Over head.Eq) ∷ (piece.Part Nothing ∷ []))) (part_behind Nothing (differ ++ piece.Part (Over head.Eq) ∷ []) (part_behind (Over head.Eq) differ
     (deeper_says 27 (ahead.Mark mark.Differ) 26 d.unequal)))))
 
-unequal_tails : (n : ℕ) → AllTails n unequal_to
+unequal_tails : {marks : Bool} (n : ℕ) → AllTailsBy marks n unequal_to
 unfolding postorder
 unequal_tails n = made_tails (λ r l. Node head.Not (Node head.Eq l r) Empty) differing_tail
 
-pub says_equality : (n : ℕ) → Deep n → Says n 31 (row_of 31) equality grows
+pub says_equality : {marks : Bool} (n : ℕ) → DeepBy marks n → SaysBy marks n 31 (row_in_table marks 31) (equality_of marks) grows
 says_equality n d =
     after_says (piece.Row 24 ∷ []) (piece.Choice (ahead.Mark mark.Equal) 29 30 ∷ []) (row_says 31 24 (lit< tt) (says_primary n d))
     (either_may_says 31 (ahead.Mark mark.Equal) 29 30 false maybe_joins (lit< tt) (lit< tt) (λ k. refl)
@@ -223,14 +241,14 @@ says_equality n d =
     (may_says 30 (ahead.Mark mark.Differ) 27 0 false maybe_joins (lit< tt) (lit< tt) (λ k. refl) (says_unequal_to n d) (λ w. refl)))
     (either_tails (joining_tails n mark.Equal Primary head.Eq) (unequal_tails n))
 
-says_conjunction : (n : ℕ) → Deep n → Says n 34 (row_of 34) conjunction grows
+says_conjunction : {marks : Bool} (n : ℕ) → DeepBy marks n → SaysBy marks n 34 (row_in_table marks 34) (conjunction_of marks) grows
 says_conjunction n d =
     after_says (piece.Row 31 ∷ []) (piece.Choice (ahead.Mark mark.Both) 33 0 ∷ []) (row_says 34 31 (lit< tt) (says_equality n d))
     (may_says 34 (ahead.Mark mark.Both) 33 0 false maybe_joins (lit< tt) (lit< tt) (λ k. refl)
     (says_joining 33 mark.Both 32 ahead.Term 34 head.And (lit< tt) (sign_says n 32 mark.Both) d.conjunction) (λ w. refl))
     (joining_tails n mark.Both Conjunction head.And)
 
-pub says_term : (n : ℕ) → Deep n → Says n 37 (row_of 37) term grows
+pub says_term : {marks : Bool} (n : ℕ) → DeepBy marks n → SaysBy marks n 37 (row_in_table marks 37) (term_of marks) grows
 says_term n d =
     after_says (piece.Row 34 ∷ []) (piece.Choice (ahead.Mark mark.Either) 36 0 ∷ []) (row_says 37 34 (lit< tt) (says_conjunction n d))
     (may_says 37 (ahead.Mark mark.Either) 36 0 false maybe_joins (lit< tt) (lit< tt) (λ k. refl)
@@ -242,7 +260,7 @@ says_term n d =
 abbrev cell_index : List Piece
 cell_index = piece.Deeper (ahead.Mark mark.OpenSquare) 6 ∷ []
 
-says_cell_index : (n : ℕ) → Deep n → Says n 38 (row_of 38) (deeper Subscript) (λ l. behind_cell (Some l))
+says_cell_index : {marks : Bool} (n : ℕ) → DeepBy marks n → SaysBy marks n 38 (row_in_table marks 38) (deeper Subscript) (λ l. behind_cell (Some l))
 says_cell_index n d =
     same_says (λ l. behind_cell (Some l)) closes_read
     (head_behind naming.Read (cell_index ++ piece.Part Nothing ∷ []) (part_behind Nothing cell_index (deeper_says 38 (ahead.Mark mark.OpenSquare) 6 d.subscript)))
@@ -250,7 +268,7 @@ says_cell_index n d =
 pub changed_same : (c e : Parts → Parts) (w : Work) → c w.parts ≡ e w.parts → changed c w ≡ changed e w
 changed_same c e w h = ap (λ q. changed (λ p. q) w) h
 
-pub says_cell : (n : ℕ) → Deep n → Says n 41 (row_of 41) cell grows
+pub says_cell : {marks : Bool} (n : ℕ) → DeepBy marks n → SaysBy marks n 41 (row_in_table marks 41) cell grows
 says_cell n d =
     level_says 41 ahead.Word 40 (lit< tt) (λ k. refl)
     (made_says (λ (x, l). cell_of x l) grows
@@ -258,10 +276,10 @@ says_cell n d =
     (may_says 40 (ahead.Mark mark.OpenSquare) 38 39 false behind_cell (lit< tt) (lit< tt) (λ k. refl) (says_cell_index n d)
     (λ w. changed_same (λ q. named naming.Leaf (part Nothing (part Nothing q))) (behind_cell None) w (closes_name w.parts)))))
 
-pub says_inner_cell : (n : ℕ) → Deep n → Says n 42 (row_of 42) (deeper OneCell) grows
+pub says_inner_cell : {marks : Bool} (n : ℕ) → DeepBy marks n → SaysBy marks n 42 (row_in_table marks 42) (deeper OneCell) grows
 says_inner_cell n d = deeper_says 42 ahead.Word 41 d.cell
 
-says_cells : (n : ℕ) → Deep n → Says n 44 (row_of 44) cells grows
+says_cells : {marks : Bool} (n : ℕ) → DeepBy marks n → SaysBy marks n 44 (row_in_table marks 44) cells grows
 says_cells n d =
     level_says 44 (ahead.Mark mark.Open) 43 (lit< tt) (λ k. refl)
     (between mark.Open mark.Close (piece.List closing.Trees mark.Comma 42 ∷ []) (list_says 43 closing.Trees mark.Comma 42 chain (lit< tt) chain_closes (says_inner_cell n d)))
@@ -278,10 +296,10 @@ no_cells : (t : Tree) (q : Parts) → grows t (part Nothing q) ≡ both_trees (E
 unfolding postorder
 no_cells t q = with_makes q _ _ (append_assoc q.makes (Nothing ∷ []) (postorder t))
 
-says_holding : (n : ℕ) → Deep n → Says n 46 (row_of 46) (mark.Both ▸ deeper Term) grows
+says_holding : {marks : Bool} (n : ℕ) → DeepBy marks n → SaysBy marks n 46 (row_in_table marks 46) (mark.Both ▸ deeper Term) grows
 says_holding n d = sign_before mark.Both (piece.Row 1 ∷ []) (row_says 46 1 (lit< tt) (says_inner n d))
 
-says_defined : (n : ℕ) → Deep n → Says n 48 (row_of 48) defined_condition both_trees
+says_defined : {marks : Bool} (n : ℕ) → DeepBy marks n → SaysBy marks n 48 (row_in_table marks 48) defined_condition both_trees
 says_defined n d =
     sign_before mark.Defined (piece.Row 45 ∷ (piece.Choice (ahead.Mark mark.Both) 46 47 ∷ []))
     (same_says both_trees two_trees
@@ -290,17 +308,17 @@ says_defined n d =
     (may_says 48 (ahead.Mark mark.Both) 46 47 false (λ o. grows (or_else yes o)) (lit< tt) (lit< tt) (λ k. refl) (says_holding n d)
     (λ w. changed_same (λ q. part (Over head.Yes) (part Nothing (part Nothing q))) (grows yes) w (closes_leaf head.Yes w.parts))))))
 
-says_plain : (n : ℕ) → Deep n → Says n 49 (row_of 49) plain_condition both_trees
+says_plain : {marks : Bool} (n : ℕ) → DeepBy marks n → SaysBy marks n 49 (row_in_table marks 49) plain_condition both_trees
 says_plain n d =
     made_says (λ t. (Empty, t)) both_trees
     (same_says (λ t. both_trees (Empty, t)) no_cells (part_before Nothing (piece.Row 1 ∷ []) (row_says 49 1 (lit< tt) (says_inner n d))))
 
-pub says_condition : (n : ℕ) → Deep n → Says n 50 (row_of 50) condition both_trees
+pub says_condition : {marks : Bool} (n : ℕ) → DeepBy marks n → SaysBy marks n 50 (row_in_table marks 50) condition both_trees
 says_condition n d = either_says 50 (ahead.Mark mark.Defined) 48 49 (lit< tt) (lit< tt) (λ k. refl) (says_defined n d) (says_plain n d)
 
 -- lists of terms that may be empty, or have one term
 
-pub says_one : (n : ℕ) → Deep n → Says n 53 (row_of 53) (made (λ t. chain (t ∷ [])) (deeper Term)) grows
+pub says_one : {marks : Bool} (n : ℕ) → DeepBy marks n → SaysBy marks n 53 (row_in_table marks 53) (made (λ t. chain (t ∷ [])) (deeper Term)) grows
 says_one n d =
     made_says (λ t. chain (t ∷ [])) grows
     (same_says (λ t. grows (chain (t ∷ []))) (λ t q. closes_node head.Cons t q)
@@ -310,55 +328,60 @@ pub no_list : (w : Work) → changed (part Nothing) w ≡ changed (grows Empty) 
 unfolding postorder
 no_list w = refl
 
-pub says_maybe_terms : (n : ℕ) → Deep n → Says n 55 (row_of 55) (listed terms) grows
+pub says_maybe_terms : {marks : Bool} (n : ℕ) → DeepBy marks n → SaysBy marks n 55 (row_in_table marks 55) (listed terms) grows
 says_maybe_terms n d =
     made_says (or_else Empty) grows
     (may_says 55 ahead.Term 2 54 false (λ o. grows (or_else Empty o)) (lit< tt) (lit< tt) (λ k. refl) (says_terms n d) no_list)
 
 -- types and variables
 
-pub says_type : (n : ℕ) → Says n 58 (row_of 58) type_name waits
+pub says_type : {marks : Bool} (n : ℕ) → SaysBy marks n 58 (row_in_table marks 58) type_name waits
 says_type n =
     either_says 58 (ahead.Mark mark.Bool) 56 57 (lit< tt) (lit< tt) (λ k. refl)
     (made_says (λ _. 0) waits (value_behind 0 (piece.Sign mark.Bool ∷ []) (sign_says n 56 mark.Bool))) (word_says n 57 (Asks AType))
 
-pub says_typed : (n b : ℕ) (r : Role) → 58 < b → Says n b (piece.Word r ∷ (piece.Sign mark.Colon ∷ (piece.Row 58 ∷ []))) (typed r) both_wait
+pub says_typed : {marks : Bool} (n b : ℕ) (r : Role) → 58 < b → SaysBy marks n b (piece.Word r ∷ (piece.Sign mark.Colon ∷ (piece.Row 58 ∷ []))) (typed r) both_wait
 says_typed n b r h =
     both_says (piece.Word r ∷ []) (piece.Sign mark.Colon ∷ (piece.Row 58 ∷ [])) (word_says n b r) (sign_before mark.Colon (piece.Row 58 ∷ []) (row_says b 58 h (says_type n)))
 
-pub says_variable : (n : ℕ) → Says n 59 (row_of 59) (typed BindsVariable) both_wait
+pub says_variable : {marks : Bool} (n : ℕ) → SaysBy marks n 59 (row_in_table marks 59) (typed BindsVariable) both_wait
 says_variable n = says_typed n 59 BindsVariable (lit< tt)
 
-pub says_local : (n : ℕ) → Says n 60 (row_of 60) (typed BindsLocal) both_wait
+pub says_local : {marks : Bool} (n : ℕ) → SaysBy marks n 60 (row_in_table marks 60) (typed BindsLocal) both_wait
 says_local n = says_typed n 60 BindsLocal (lit< tt)
 
 -- a phrase, or the empty list
 
-pub says_listed : {n : ℕ} {f : Phrase Tree} (b : ℕ) (a : Ahead) (r : ℕ) → r < b → 54 < b → ((k : Kind) → begins a k ≡ starts heads f k) → Says n r (row_of r) f grows → Says n b (piece.Choice a r 54 ∷ []) (listed f) grows
+pub says_listed : {marks : Bool} {n : ℕ} {f : Phrase Tree} (b : ℕ) (a : Ahead) (r : ℕ) → r < b → 54 < b → ((k : Kind) → begins a k ≡ starts heads f k) → SaysBy marks n r (row_in_table marks r) f grows → SaysBy marks n b (piece.Choice a r 54 ∷ []) (listed f) grows
 says_listed b a r h i k s = made_says (or_else Empty) grows (may_says b a r 54 false (λ o. grows (or_else Empty o)) h i k s no_list)
 
 -- variables of a function
 
-says_local_item : (n : ℕ) → Says n 146 (row_of 146) (typed BindsLocal) item_waits
+says_local_item : {marks : Bool} (n : ℕ) → SaysBy marks n 146 (row_in_table marks 146) (typed BindsLocal) item_waits
 says_local_item n = part_behind Nothing (piece.Row 60 ∷ []) (row_says 146 60 (lit< tt) (says_local n))
 
-pub says_local_vars : (n : ℕ) → Says n 147 (row_of 147) (vars BindsLocal) grows
+pub says_local_vars : {marks : Bool} (n : ℕ) → SaysBy marks n 147 (row_in_table marks 147) (vars BindsLocal) grows
 says_local_vars n = list_says 147 closing.Binders mark.Comma 146 binders (lit< tt) binders_close (says_local_item n)
 
-pub says_local_list : (n : ℕ) → Says n 149 (row_of 149) (var_list BindsLocal) grows
+pub says_local_list : {marks : Bool} (n : ℕ) → SaysBy marks n 149 (row_in_table marks 149) (var_list BindsLocal) grows
 says_local_list n =
     level_says 149 (ahead.Mark mark.Open) 148 (lit< tt) (λ k. refl)
     (between mark.Open mark.Close (piece.Choice ahead.Word 147 54 ∷ []) (says_listed 148 ahead.Word 147 (lit< tt) (lit< tt) (λ k. refl) (says_local_vars n)))
 
 -- by the levels that are left
 
-pub one_below : {e : Tree → Parts → Parts} (n : ℕ) (a : Ahead) (r : ℕ) (s : Sort) → r < row_count → Says n r (row_of r) (rule s) e → IsBelow (suc n) a r s e
-one_below {e = e} n a r s h x = record {
-  law = λ w. row_law term_rows n row_count r w h ∙ (x.law w ∙ ap (put e w) (sym (sort_below (suc n) n s w.rest refl)));
+pub one_below_by : {marks : Bool} {f : Phrase Tree} {e : Tree → Parts → Parts} (n : ℕ) (a : Ahead) (r : ℕ) (s : Sort) → rule_of marks s ≡ f → r < row_count → SaysBy marks n r (row_in_table marks r) f e → IsBelowBy marks (suc n) a r s e
+one_below_by {marks = marks} {e = e} n a r s i h x = record {
+  law = λ w.
+      row_law (rows_of_terms marks) n row_count r w h
+      ∙ (x.law w ∙ ap (put e w) (ap (λ g. read_by (rule_of marks) n g w.rest) (sym i) ∙ sym (sort_below (rule_of marks) (suc n) n s w.rest refl)));
 }
 
-pub deep : (n : ℕ) → Deep n
-deep zero = record {
+pub one_below : {e : Tree → Parts → Parts} (n : ℕ) (a : Ahead) (r : ℕ) (s : Sort) → r < row_count → Says n r (row_of r) (rule s) e → IsBelow (suc n) a r s e
+one_below n a r s h x = one_below_by n a r s refl h x
+
+pub deep : {marks : Bool} (n : ℕ) → DeepBy marks n
+deep {marks = marks} zero = record {
   term = none_below ahead.Term 37 Term grows (λ k. refl);
   conjunction = none_below ahead.Term 34 Conjunction grows (λ k. refl);
   primary = none_below ahead.Term 24 Primary grows (λ k. refl);
@@ -369,16 +392,16 @@ deep zero = record {
   cells = none_below (ahead.Mark mark.Open) 44 Cells grows (λ k. refl);
   cell = none_below ahead.Word 41 OneCell grows (λ k. refl);
 }
-deep (suc n) =
-    let d : Deep n = deep n in
+deep {marks = marks} (suc n) =
+    let d : DeepBy marks n = deep n in
     record {
-      term = one_below n ahead.Term 37 Term (lit< tt) (says_term n d);
-      conjunction = one_below n ahead.Term 34 Conjunction (lit< tt) (says_conjunction n d);
-      primary = one_below n ahead.Term 24 Primary (lit< tt) (says_primary n d);
-      unequal = one_below n (ahead.Mark mark.Differ) 26 Unequal (lit< tt) (says_unequal n d);
-      arguments = one_below n (ahead.Mark mark.Open) 4 Arguments (lit< tt) (says_arguments n d);
-      subscript = one_below n (ahead.Mark mark.OpenSquare) 6 Subscript (lit< tt) (says_subscript n d);
-      parentheses = one_below n (ahead.Mark mark.Open) 8 Parentheses (lit< tt) (says_parentheses n d);
-      cells = one_below n (ahead.Mark mark.Open) 44 Cells (lit< tt) (says_cells n d);
-      cell = one_below n ahead.Word 41 OneCell (lit< tt) (says_cell n d);
+      term = one_below_by n ahead.Term 37 Term (term_row marks) (lit< tt) (says_term n d);
+      conjunction = one_below_by n ahead.Term 34 Conjunction (conjunction_row marks) (lit< tt) (says_conjunction n d);
+      primary = one_below_by n ahead.Term 24 Primary (primary_row marks) (lit< tt) (says_primary n d);
+      unequal = one_below_by n (ahead.Mark mark.Differ) 26 Unequal (unequal_row marks) (lit< tt) (says_unequal n d);
+      arguments = one_below_by n (ahead.Mark mark.Open) 4 Arguments (arguments_row marks) (lit< tt) (says_arguments n d);
+      subscript = one_below_by n (ahead.Mark mark.OpenSquare) 6 Subscript (subscript_row marks) (lit< tt) (says_subscript n d);
+      parentheses = one_below_by n (ahead.Mark mark.Open) 8 Parentheses (parentheses_row marks) (lit< tt) (says_parentheses n d);
+      cells = one_below_by n (ahead.Mark mark.Open) 44 Cells (cells_row marks) (lit< tt) (says_cells n d);
+      cell = one_below_by n ahead.Word 41 OneCell (cell_row marks) (lit< tt) (says_cell n d);
     }

@@ -81,9 +81,6 @@ find_runs all t ns ms at x p d n = plain_runs waits all t t ns ms (drop at all) 
 pub number_runs : (all : List Sign) (t : Trail) (ns ms ls : List ℕ) (at x p : ℕ) → IsPlain all (read_number (drop at all)) x p → reverse ms ≡ other_names (reverse ns) → ls ≡ ms ++ x ∷ [] → Runs all (Ok p) t ls (put instead (work_of t ns (drop at all)) (read_number (drop at all)))
 number_runs all t ns ms ls at x p d n m = plain_runs instead all t t ns ls (drop at all) (read_number (drop at all)) x p d refl (ap (λ xs. let q : Parts = record { names = xs; makes = t.makes.items } in q) (ap reverse m ∙ (reverse-append ms (x ∷ []) ∙ ap (λ l. x ∷ l) n)))
 
-pub value_runs : (all : List Sign) (t : Trail) (ns ms : List ℕ) (x at : ℕ) → at ≤ length all → ms ≡ ns ++ x ∷ [] → Runs all (Ok at) t ms (changed (waits x) (work_of t ns (drop at all)))
-value_runs all t ns ms x at l n = (l, ap (λ xs. let w : Result Work Fault = Ok (record { parts = record { names = xs; makes = t.makes.items }; uses = uses_of t.uses.items; rest = drop at all }) in w) (sym (ap reverse n ∙ reverse-append ns (x ∷ []))))
-
 pub note_runs : (all : List Sign) (s t : Trail) (ns : List ℕ) (role : Role) (at n : ℕ) → IsRead all s.uses.items t.uses.items (read_note role (drop at all)) n at → t.makes ≡ s.makes → Runs all (Ok at) t ns (put made_no_part (work_of s ns (drop at all)) (read_note role (drop at all)))
 note_runs all s t ns role at n d m = put_read made_no_part all s t ns ns (drop at all) (read_note role (drop at all)) n at d (ap (λ v. let q : Parts = record { names = reverse ns; makes = v.items } in q) m)
 
@@ -269,4 +266,4 @@ pub passed_on : (all : List Sign) (r : Result ℕ ReadError) (e : ReadError) (t 
 passed_on all (Ok x) e t ns q i h = absurd i
 passed_on all (Err x) e t ns q i h = subst (λ y. Stops all y q) (sym i) h
 
-pub ruleset walks = (refused_stops, fails_put, sign_runs, word_runs, note_runs, zero_runs, find_runs, number_runs, value_runs, last_leaves, name_leaves, pair_leaves, name_pushed, goes_twice, bounds_leave)
+pub ruleset walks = (refused_stops, fails_put, sign_runs, word_runs, note_runs, zero_runs, find_runs, number_runs, last_leaves, name_leaves, pair_leaves, name_pushed, goes_twice, bounds_leave)

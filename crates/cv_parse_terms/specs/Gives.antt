@@ -11,6 +11,7 @@ use Rattle.cv_parse_notation.specs.declared.sign.Mark.{Mark}
 use Rattle.cv_parse_notation.specs.Spells.{Use, used, next_is, is_mark}
 use Rattle.cv_parse_notation.specs.Reads.{Read, Syntax, Nesting, found, pick, no_level, no_syntax, read_sign, reads, read_sort, too_deep}
 use Rattle.cv_parse_grammar.specs.declared.role.Role.{Role}
+use Rattle.cv_parse_grammar.specs.Marks.{marked_rule}
 use Rattle.cv_parse_grammar.specs.Phrases.{Sort, Phrase}
 use Rattle.cv_parse_grammar.specs.Rules.{rule, heads}
 use Rattle.cv_parse_terms.specs.declared.trail.NameUse.{NameUse}
@@ -51,14 +52,30 @@ abbrev pub positive : ℕ → Bool
 positive zero = false
 positive (suc n) = true
 
--- what reads a sort one level below, with n levels left
-abbrev pub below : ℕ → Sort → List Sign → Read Role Tree
-below zero s ts = too_deep heads s ts
-below (suc n) s ts = read_sort heads rule n s ts
+-- what reads a sort one level below, with n levels left, by the rows of the sorts
+abbrev pub below_by : (Sort → Phrase Tree) → ℕ → Sort → List Sign → Read Role Tree
+below_by rows zero s ts = too_deep heads s ts
+below_by rows (suc n) s ts = read_sort heads rows n s ts
 
 -- what a form reads with n levels left
+abbrev pub read_by : {A : Type 0} → (Sort → Phrase Tree) → ℕ → Phrase A → List Sign → Read Role A
+read_by rows n f ts = reads heads (positive n) (below_by rows n) f ts
+
+-- the same in files
+
+abbrev pub below : ℕ → Sort → List Sign → Read Role Tree
+below = below_by rule
+
 abbrev pub read_in : {A : Type 0} → ℕ → Phrase A → List Sign → Read Role A
-read_in n f ts = reads heads (positive n) (below n) f ts
+read_in = read_by rule
+
+-- and in scripts, where names may have marks
+
+abbrev pub below_marked : ℕ → Sort → List Sign → Read Role Tree
+below_marked = below_by marked_rule
+
+abbrev pub read_marked : {A : Type 0} → ℕ → Phrase A → List Sign → Read Role A
+read_marked = read_by marked_rule
 
 -- what a note reads: no token
 abbrev pub read_note : Role → List Sign → Read Role ℕ

@@ -82,6 +82,7 @@ other_names (x ∷ xs) = xs
 
 abbrev pub head_of : Naming → ℕ → Head
 head_of naming.Leaf x = head.Leaf x
+head_of naming.Primed x = head.Primed x
 head_of naming.Read x = head.Read x
 head_of naming.Apply x = head.Apply x
 head_of naming.Name x = head.Name x
@@ -189,32 +190,46 @@ no_room false n = Syntax n
 abbrev pub refused : Ahead → Step
 refused a w = Err (no_room (next_is (begins a) w.rest) (length w.rest))
 
+-- a head of the name that waits: the first where this symbol stands, which is taken, and else the second
+abbrev pub marked : Mark → Naming → Naming → Step
+marked m g h w = chosen (next_is (is_mark m) w.rest) (λ v. and_then (put made_no_part v (read_sign m v.rest)) (changed (named g))) (changed (named h)) w
+
 -- what stands behind a symbol, again and again; so many were read, and n bounds how many more
 abbrev pub more : Closing → Mark → Step → ℕ → ℕ → Step
 more c m p zero k w = changed (closed c k) w
 more c m p (suc n) k w = chosen (next_is (is_mark m) w.rest) (λ v. and_then (and_then (put made_no_part v (read_sign m v.rest)) p) (more c m p n (k + 1))) (changed (closed c k)) w
 
+-- what a piece makes that takes no token and speaks of no row
+abbrev pub change_by : Piece → Parts → Parts
+change_by (piece.Value x) q = waits x q
+change_by piece.Again q = again q
+change_by piece.Before q = before q
+change_by piece.Bounds q = bounds q
+change_by (piece.Part m) q = part m q
+change_by (piece.Named h) q = named h q
+change_by (piece.Paired h) q = paired h q
+change_by p q = q
+
+-- a piece that speaks of no row
+abbrev pub alone : Piece → Step
+alone (piece.Sign m) w = put made_no_part w (read_sign m w.rest)
+alone (piece.Word r) w = put waits w (read_word r w.rest)
+alone piece.Zero w = put made_no_part w (read_nought w.rest)
+alone piece.Find w = put waits w (read_find w.rest)
+alone piece.Instead w = put instead w (read_number w.rest)
+alone (piece.Note r) w = put made_no_part w (read_note r w.rest)
+alone (piece.Marked m g h) w = marked m g h w
+alone p w = changed (change_by p) w
+
 -- a piece, where room says whether a level is left, below what a row does one level down, and row what a row does
 abbrev pub piece_step : Bool → (Ahead → ℕ → Step) → (ℕ → Step) → Piece → Step
-piece_step room below row (piece.Sign m) w = put made_no_part w (read_sign m w.rest)
-piece_step room below row (piece.Word r) w = put waits w (read_word r w.rest)
-piece_step room below row piece.Zero w = put made_no_part w (read_nought w.rest)
-piece_step room below row piece.Find w = put waits w (read_find w.rest)
-piece_step room below row piece.Instead w = put instead w (read_number w.rest)
-piece_step room below row (piece.Value x) w = changed (waits x) w
-piece_step room below row piece.Again w = changed again w
-piece_step room below row piece.Before w = changed before w
-piece_step room below row piece.Bounds w = changed bounds w
-piece_step room below row (piece.Note r) w = put made_no_part w (read_note r w.rest)
-piece_step room below row (piece.Part m) w = changed (part m) w
-piece_step room below row (piece.Named h) w = changed (named h) w
-piece_step room below row (piece.Paired h) w = changed (paired h) w
 piece_step room below row (piece.Row r) w = row r w
 piece_step room below row (piece.Level a r) w = chosen room (row r) (refused a) w
 piece_step room below row (piece.Deeper a r) w = below a r w
 piece_step room below row (piece.Choice a r s) w = chosen (next_is (begins a) w.rest) (row r) (row s) w
 piece_step room below row (piece.List c m r) w = and_then (row r w) (λ v. more c m (row r) (length v.rest) 1 v)
 piece_step room below row (piece.Many c m r) w = more c m (row r) (length w.rest) 0 w
+piece_step room below row p w = alone p w
 
 -- pieces one behind another
 abbrev pub pieces_step : (Piece → Step) → List Piece → Step

@@ -1,5 +1,5 @@
 -- The rows of terms, processes, the bodies of functions and declarations, as a table. This profile's own.
-use Rattle.std.specs.Prelude.{ℕ, List, [], ◌∷◌, drop, slice_index_or, Result}
+use Rattle.std.specs.Prelude.{ℕ, Bool, true, false, List, [], ◌∷◌, drop, slice_index_or, Result}
 use Rattle.cv_syntax.specs.declared.make.Make.TheVariants.{Nothing, Over}
 use Rattle.cv_syntax_trees.specs.declared.head.Head.TheVariants.{Eq, And, Or, Not, Yes, No, Cons, Stop, Yield, Par, If, Branch, Forall, Query}
 use Rattle.cv_parse_notation.specs.declared.sign.Sign.{Sign}
@@ -14,11 +14,17 @@ use Rattle.cv_parse_terms.specs.declared.piece.Naming.TheVariants as naming
 use Rattle.cv_parse_terms.specs.declared.piece.Pairing.TheVariants as pairing
 use Rattle.cv_parse_terms.specs.declared.piece.Closing.TheVariants as closing
 use Rattle.cv_parse_terms.specs.declared.piece.Piece.{Piece}
-use Rattle.cv_parse_terms.specs.declared.piece.Piece.TheVariants.{Sign as Says, Word, Zero, Find, Instead, Value, Again, Before, Bounds, Note, Part, Named, Paired, Row, Level, Deeper, Choice, List as Items, Many}
+use Rattle.cv_parse_terms.specs.declared.piece.Piece.TheVariants.{Sign as Says, Word, Zero, Find, Instead, Value, Again, Before, Bounds, Note, Part, Named, Marked, Paired, Row, Level, Deeper, Choice, List as Items, Many}
 use Rattle.cv_parse_terms.specs.Tables.{Table, Runs, row_in, work_of}
 
-abbrev pub term_rows : Table
-term_rows =
+-- the head of a bare name: in files, and in scripts, where the mark of a second copy may follow
+abbrev pub bare_piece : (marks : Bool) → Piece
+bare_piece false = Named naming.Leaf
+bare_piece true = Marked mark.Prime naming.Primed naming.Leaf
+
+-- the rows, by the piece that makes the head of a bare name
+abbrev pub rows_with : Piece → Table
+rows_with bare =
     [] ∷  -- 0 nothing
     (Deeper ahead.Term 37 ∷ []) ∷  -- 1 a term one level down
     (Items closing.Trees mark.Comma 1 ∷ []) ∷  -- 2 terms
@@ -30,7 +36,7 @@ term_rows =
     (Level (ahead.Mark mark.Open) 7 ∷ []) ∷  -- 8 parentheses
     (Note AsCall ∷ Deeper (ahead.Mark mark.Open) 4 ∷ Part Nothing ∷ Named naming.Apply ∷ []) ∷  -- 9 arguments behind a name
     (Note AsArray ∷ Deeper (ahead.Mark mark.OpenSquare) 6 ∷ Part Nothing ∷ Named naming.Read ∷ []) ∷  -- 10 indices behind a name
-    (Note AsBare ∷ Part Nothing ∷ Part Nothing ∷ Named naming.Leaf ∷ []) ∷  -- 11 nothing behind a name
+    (Note AsBare ∷ Part Nothing ∷ Part Nothing ∷ bare ∷ []) ∷  -- 11 nothing behind a name
     (Choice (ahead.Mark mark.OpenSquare) 10 11 ∷ []) ∷  -- 12
     (Word Mentions ∷ Choice (ahead.Mark mark.Open) 9 12 ∷ []) ∷  -- 13
     (Level ahead.Word 13 ∷ []) ∷  -- 14 a name, and what follows it
@@ -231,16 +237,32 @@ term_rows =
     (Says mark.Bang ∷ Word BindsLocal ∷ Says mark.AtMost ∷ Word BindsBound ∷ Says mark.New ∷ Row 207 ∷ Says mark.Semicolon ∷ Row 206 ∷ Paired pairing.Bound ∷ []) ∷  -- 209 a group of the right side
     (Says mark.Equiv ∷ Word (Declares AnEquivalence) ∷ Note (Enters_in InEquivalence) ∷ Row 208 ∷ Row 191 ∷ Row 209 ∷ Named naming.Equivalence ∷ Note Leaves ∷ Says mark.Dot ∷ []) ∷ []  -- 210 the declaration of an equivalence
 
+abbrev pub rows_of_terms : (marks : Bool) → Table
+rows_of_terms marks = rows_with (bare_piece marks)
+
+-- the rows of files
+abbrev pub term_rows : Table
+term_rows = rows_of_terms false
+
 abbrev pub row_count : ℕ
 row_count = 211
 
-abbrev pub row_of : ℕ → List Piece
-row_of r = slice_index_or term_rows r []
+abbrev pub row_in_table : (marks : Bool) → ℕ → List Piece
+row_in_table marks r = slice_index_or (rows_of_terms marks) r []
 
--- The row was read from a place on, with so many levels left; some names wait before it, and others behind it.
+abbrev pub row_of : ℕ → List Piece
+row_of r = row_in_table false r
+
+-- The row of a table was read from a place on, with so many levels left; some names wait before it, and others behind it.
+abbrev pub EntersBy : (marks : Bool) → ℕ → ℕ → List Sign → ℕ → Trail → (before : List ℕ) → Result ℕ ReadError → Trail → (behind : List ℕ) → Type 0
+EntersBy marks r n all at old before result new behind = Runs all result new behind (row_in (rows_of_terms marks) n row_count r (work_of old before (drop at all)))
+
 abbrev pub EntersWith : ℕ → ℕ → List Sign → ℕ → Trail → (before : List ℕ) → Result ℕ ReadError → Trail → (behind : List ℕ) → Type 0
-EntersWith r n all at old before result new behind = Runs all result new behind (row_in term_rows n row_count r (work_of old before (drop at all)))
+EntersWith r n all at old before result new behind = EntersBy false r n all at old before result new behind
 
 -- no name waits before it
+abbrev pub EntersAlone : (marks : Bool) → ℕ → ℕ → List Sign → ℕ → Trail → Result ℕ ReadError → Trail → Type 0
+EntersAlone marks r n all at old result new = (names : List ℕ) × EntersBy marks r n all at old [] result new names
+
 abbrev pub Enters : ℕ → ℕ → List Sign → ℕ → Trail → Result ℕ ReadError → Trail → Type 0
-Enters r n all at old result new = (names : List ℕ) × EntersWith r n all at old [] result new names
+Enters r n all at old result new = EntersAlone false r n all at old result new

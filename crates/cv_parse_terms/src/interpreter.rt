@@ -1,9 +1,9 @@
 ghost use Rattle.std.specs.Prelude.{◌≡◌, ◌++◌, ◌∷◌, ◌+◌, ◌-◌, ◌<◌, ◌≤◌, ◌^◌, length, drop, replicate, reverse, IfErr, IfOk, OnOk};
 ghost use Rattle.cv_syntax.specs.declared.make.Make.TheVariants.{Nothing};
 ghost use Rattle.cv_parse_notation.specs.Spells.{next_is};
-ghost use Rattle.cv_parse_notation.specs.Reads.{read_find, read_nought, read_number, read_sign, read_word};
+ghost use Rattle.cv_parse_notation.specs.Reads.{read_find, read_number, read_sign, read_word};
 ghost use Rattle.cv_parse_terms.specs.Gives.{read_note};
-ghost use Rattle.cv_parse_terms.specs.Tables.{Runs, Stops, begins, bounds as bounds_parts, bounds_head as bounds_form, changed, closed, closer as closer_parts, ended as ended_parts, head_of as head_form, instead as instead_of, last_name, made_no_part, more, named as named_parts, other_names, pair_of as pair_form, paired as paired_parts, parts_of, piece_in, pieces_in, put, put_before, refused as refused_step, row_in, rows_of, twice, waits, work_of};
+ghost use Rattle.cv_parse_terms.specs.Tables.{Runs, Stops, alone, begins, bounds as bounds_parts, bounds_head as bounds_form, change_by, closed, closer as closer_parts, ended as ended_parts, head_of as head_form, instead as instead_of, last_name, made_no_part, marked as marked_parts, more, named as named_parts, other_names, pair_of as pair_form, paired as paired_parts, parts_of, piece_in, pieces_in, put, put_before, refused as refused_step, row_in, rows_of, twice, waits, work_of};
 ghost use Rattle.cv_parse_terms.specs.declared.lookahead.ReadError.TheVariants.{OutOfMemory};
 
 use crate::lookahead::{
@@ -104,18 +104,6 @@ fn noted(
     Ok(at)
 }
 
-/// The number 0.
-#[tactic(auto, using(crate::proofs::Walks::walks))]
-fn nought(signs: &[Sign], at: usize, trail: &Trail, names: &Vec<u64>) -> Result<usize, ReadError>
-    requires at { at ≤ length signs.now }
-    requires few { length signs.now < 2 ^ 32 }
-    ensures { Runs signs.now result trail.now names.now.items (put made_no_part
-        (work_of trail.now names.now.items (drop at signs.now))
-        (read_nought (drop at signs.now))) }
-{
-    zero(signs, at)
-}
-
 /// The word `find`, whose number waits as a name.
 #[tactic(auto, using(crate::proofs::Walks::walks))]
 fn found(signs: &[Sign], at: usize, trail: &Trail, names: &mut Vec<u64>) -> Result<usize, ReadError>
@@ -159,23 +147,6 @@ fn instead(
     Ok(place)
 }
 
-/// A number waits.
-#[tactic(auto, using(crate::proofs::Walks::walks))]
-fn value(
-    signs: &[Sign],
-    at: usize,
-    trail: &Trail,
-    names: &mut Vec<u64>,
-    number: u64,
-) -> Result<usize, ReadError>
-    requires at { at ≤ length signs.now }
-    ensures { Runs signs.now result trail.now names.new.items (changed (waits number)
-        (work_of trail.now names.old.items (drop at signs.now))) }
-{
-    names.push(number)?;
-    Ok(at)
-}
-
 /// A name as heads have it. No name is longer.
 pub fn short(x: u64) -> Result<u32, ReadError>
     ensures value { IfOk result (λ y. y ≡ x) }
@@ -193,6 +164,7 @@ fn head_of(naming: Naming, x: u32) -> Head
 {
     match naming {
         Naming::Leaf => Head::Leaf(x),
+        Naming::Primed => Head::Primed(x),
         Naming::Read => Head::Read(x),
         Naming::Apply => Head::Apply(x),
         Naming::Name => Head::Name(x),
@@ -234,6 +206,32 @@ fn named(trail: &mut Trail, names: &mut Vec<u64>, naming: Naming) -> Result<(), 
     let head = long_head(naming, x)?;
     trail.makes.push(Make::Over(head))?;
     Ok(())
+}
+
+/// A node with a head of the name that waits: of the first kind where this word or symbol stands, which
+/// is taken, and else of the second.
+#[tactic(auto, using(crate::proofs::Walks::walks))]
+fn marked(
+    signs: &[Sign],
+    at: usize,
+    trail: &mut Trail,
+    names: &mut Vec<u64>,
+    mark: Mark,
+    first: Naming,
+    second: Naming,
+) -> Result<usize, ReadError>
+    requires at { at ≤ length signs.now }
+    requires few { length signs.now < 2 ^ 32 }
+    ensures { Runs signs.now result trail.new names.new.items (marked_parts mark first second
+        (work_of trail.old names.old.items (drop at signs.now))) }
+{
+    if !is_at(signs, at, mark) {
+        named(trail, names, second)?;
+        return Ok(at);
+    }
+    let place = passed(signs, at, trail, names, mark)?;
+    named(trail, names, first)?;
+    Ok(place)
 }
 
 /// The head of two names.
@@ -401,6 +399,60 @@ fn close(
     Ok(())
 }
 
+/// What a piece makes that takes no token and speaks of no row.
+#[tactic(auto, using(crate::proofs::Walks::walks))]
+fn change(trail: &mut Trail, names: &mut Vec<u64>, piece: Piece) -> Result<(), ReadError>
+    ensures parts { OnOk result (parts_of trail.new names.new.items
+        ≡ change_by piece (parts_of trail.old names.old.items)) }
+    ensures full { IfErr result (λ e. e ≡ OutOfMemory) }
+    ensures uses { trail.new.uses ≡ trail.old.uses }
+{
+    match piece {
+        Piece::Value(number) => push(names, number),
+        Piece::Again => again(names),
+        Piece::Before => before(names),
+        Piece::Bounds => bounds(trail, names),
+        Piece::Named(naming) => named(trail, names, naming),
+        Piece::Paired(pairing) => paired(trail, names, pairing),
+        Piece::Part(make) => {
+            trail.makes.push(make)?;
+            Ok(())
+        }
+        _ => Ok(()),
+    }
+}
+
+/// A piece that speaks of no row.
+#[tactic(auto, using(crate::proofs::Walks::walks))]
+fn read_alone(
+    signs: &[Sign],
+    at: usize,
+    trail: &mut Trail,
+    names: &mut Vec<u64>,
+    piece: Piece,
+) -> Result<usize, ReadError>
+    requires at { at ≤ length signs.now }
+    requires few { length signs.now < 2 ^ 32 }
+    ensures { Runs signs.now result trail.new names.new.items (alone piece
+        (work_of trail.old names.old.items (drop at signs.now))) }
+{
+    match piece {
+        Piece::Sign(mark) => passed(signs, at, trail, names, mark),
+        Piece::Word(role) => waiting(signs, at, trail, names, role),
+        Piece::Zero => zero(signs, at),
+        Piece::Find => found(signs, at, trail, names),
+        Piece::Instead => instead(signs, at, trail, names),
+        Piece::Note(role) => noted(signs, at, trail, names, role),
+        Piece::Marked(mark, first, second) => {
+            marked(signs, at, trail, names, mark, first, second)
+        }
+        _ => {
+            change(trail, names, piece)?;
+            Ok(at)
+        }
+    }
+}
+
 /// What a row reads, again behind each such symbol, where so many were read.
 #[cycle(walk)]
 fn list(
@@ -463,37 +515,6 @@ fn read_piece(
         (work_of trail.old names.old.items (drop at signs.now))) }
 {
     match piece {
-        Piece::Sign(mark) => passed(signs, at, trail, names, mark),
-        Piece::Word(role) => waiting(signs, at, trail, names, role),
-        Piece::Zero => nought(signs, at, trail, names),
-        Piece::Find => found(signs, at, trail, names),
-        Piece::Instead => instead(signs, at, trail, names),
-        Piece::Value(number) => value(signs, at, trail, names, number),
-        Piece::Note(role) => noted(signs, at, trail, names, role),
-        Piece::Part(make) => {
-            trail.makes.push(make)?;
-            Ok(at)
-        }
-        Piece::Named(naming) => {
-            named(trail, names, naming)?;
-            Ok(at)
-        }
-        Piece::Paired(pairing) => {
-            paired(trail, names, pairing)?;
-            Ok(at)
-        }
-        Piece::Again => {
-            again(names)?;
-            Ok(at)
-        }
-        Piece::Before => {
-            before(names)?;
-            Ok(at)
-        }
-        Piece::Bounds => {
-            bounds(trail, names)?;
-            Ok(at)
-        }
         Piece::Row(r) => read_row(rows, bound, r as usize, signs, at, trail, names, depth),
         Piece::Level(ahead, r) => {
             if depth > 0 {
@@ -524,6 +545,7 @@ fn read_piece(
                 rows, bound, closing, mark, row, 0, signs, at, trail, names, depth,
             )
         }
+        _ => read_alone(signs, at, trail, names, piece),
     }
 }
 

@@ -4,6 +4,7 @@
 
 mod interpreter;
 mod lookahead;
+mod marked;
 mod phrases;
 mod piece;
 mod tokens;
@@ -14,9 +15,8 @@ pub use lookahead::{
     ReadError, begins_term, expect, is_at, is_find_at, is_script_word_at, is_unnamed_at,
     is_word_at, is_zero_at, open, shallow,
 };
-pub use phrases::{
-    cell, enter, enter_with_names, inner_cell, inner_subscript, inner_term, term, terms,
-};
+pub use marked::enter_marked;
+pub use phrases::{enter, enter_with_names, term};
 pub use piece::{Ahead, Closing, Naming, Pairing, Piece};
 pub use tokens::{find_word, note, number, script_word, unnamed, word, zero};
 pub use trail::{NameUse, Trail, close_chain, leaf};

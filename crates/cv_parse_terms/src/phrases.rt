@@ -1,8 +1,7 @@
 ghost use Rattle.std.specs.Prelude.{◌≡◌, ◌<◌, ◌≤◌, ◌^◌, length, drop};
 ghost use Rattle.cv_syntax.specs.Postorder.{postorder};
-ghost use Rattle.cv_parse_grammar.specs.Phrases.{Term, Subscript, OneCell};
-ghost use Rattle.cv_parse_grammar.specs.Terms.{cell as cell_form, term as term_form, terms as terms_form};
-ghost use Rattle.cv_parse_terms.specs.Gives.{Makes, below, read_in};
+ghost use Rattle.cv_parse_grammar.specs.Terms.{term as term_form};
+ghost use Rattle.cv_parse_terms.specs.Gives.{Makes, read_in};
 ghost use Rattle.cv_parse_terms.specs.Tables.{rows_of};
 ghost use Rattle.cv_parse_terms.specs.TermRows.{Enters, EntersWith, term_rows};
 
@@ -20,7 +19,7 @@ use cv_syntax::Head;
 use cv_syntax::Make::{Nothing, Over};
 
 /// How many rows there are. A row that stands before one that only opens a level is the inside of it.
-const ROWS: usize = 211;
+pub(crate) const ROWS: usize = 211;
 
 /// Terms, and types with their variables.
 const TERM_ROWS: [&[Piece]; 64] = [
@@ -642,7 +641,7 @@ const DECLARATION_ROWS: [&[Piece]; 61] = [
 ];
 
 /// The rows of terms, processes, the bodies of functions and declarations.
-fn table() -> [&'static [Piece]; ROWS]
+pub(crate) fn table() -> [&'static [Piece]; ROWS]
     ensures { rows_of result ≡ term_rows }
 {
     let none: &[Piece] = &[];
@@ -696,74 +695,4 @@ pub fn term(signs: &[Sign], at: usize, trail: &mut Trail, depth: u32) -> Result<
         (read_in depth term_form (drop at signs.now)) }
 {
     enter(37, signs, at, trail, depth)
-}
-
-/// A term one level down.
-#[tactic(auto, using(crate::proofs::Entries::entries))]
-pub fn inner_term(
-    signs: &[Sign],
-    at: usize,
-    trail: &mut Trail,
-    depth: u32,
-) -> Result<usize, ReadError>
-    requires at { at ≤ length signs.now }
-    requires few { length signs.now < 2 ^ 32 }
-    ensures makes { Makes postorder signs.now trail.old trail.new result
-        (below depth Term (drop at signs.now)) }
-{
-    enter(1, signs, at, trail, depth)
-}
-
-/// A list of terms.
-#[tactic(auto, using(crate::proofs::Entries::entries))]
-pub fn terms(signs: &[Sign], at: usize, trail: &mut Trail, depth: u32) -> Result<usize, ReadError>
-    requires at { at ≤ length signs.now }
-    requires few { length signs.now < 2 ^ 32 }
-    ensures makes { Makes postorder signs.now trail.old trail.new result
-        (read_in depth terms_form (drop at signs.now)) }
-{
-    enter(2, signs, at, trail, depth)
-}
-
-/// Indices in square brackets, one level down.
-#[tactic(auto, using(crate::proofs::Entries::entries))]
-pub fn inner_subscript(
-    signs: &[Sign],
-    at: usize,
-    trail: &mut Trail,
-    depth: u32,
-) -> Result<usize, ReadError>
-    requires at { at ≤ length signs.now }
-    requires few { length signs.now < 2 ^ 32 }
-    ensures makes { Makes postorder signs.now trail.old trail.new result
-        (below depth Subscript (drop at signs.now)) }
-{
-    enter(52, signs, at, trail, depth)
-}
-
-/// A cell of `defined`.
-#[tactic(auto, using(crate::proofs::Entries::entries))]
-pub fn cell(signs: &[Sign], at: usize, trail: &mut Trail, depth: u32) -> Result<usize, ReadError>
-    requires at { at ≤ length signs.now }
-    requires few { length signs.now < 2 ^ 32 }
-    ensures makes { Makes postorder signs.now trail.old trail.new result
-        (read_in depth cell_form (drop at signs.now)) }
-{
-    enter(41, signs, at, trail, depth)
-}
-
-/// A cell of `defined`, one level down.
-#[tactic(auto, using(crate::proofs::Entries::entries))]
-pub fn inner_cell(
-    signs: &[Sign],
-    at: usize,
-    trail: &mut Trail,
-    depth: u32,
-) -> Result<usize, ReadError>
-    requires at { at ≤ length signs.now }
-    requires few { length signs.now < 2 ^ 32 }
-    ensures makes { Makes postorder signs.now trail.old trail.new result
-        (below depth OneCell (drop at signs.now)) }
-{
-    enter(42, signs, at, trail, depth)
 }

@@ -31,6 +31,7 @@ pub enum Ahead {
 #[derive(Clone, Copy)]
 pub enum Naming {
     Leaf,
+    Primed,
     Read,
     Apply,
     Name,
@@ -98,6 +99,9 @@ pub enum Piece {
     Part(Make),
     /// A node with a head of the name that waits.
     Named(Naming),
+    /// A node with a head of the name that waits: of the first kind where this word or symbol stands,
+    /// which is taken, and else of the second.
+    Marked(Mark, Naming, Naming),
     /// A node with a head of the two names that wait.
     Paired(Pairing),
     /// What a row reads.

@@ -1,4 +1,5 @@
-// A pool of nodes of binary trees, in which each tree has one node, with marks to go back to.
+// A pool of nodes of binary trees, in which each tree has one node, with marks to go back to, and a table of names, in which each
+// text has one number.
 #![tactic(auto)]
 
 mod bucket;

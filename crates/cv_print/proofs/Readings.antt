@@ -5,7 +5,7 @@ use Rattle.std.specs.Prelude.{codes}
 use Rattle.std.specs.Fmt.{decimal}
 use Rattle.cv_syntax_trees.specs.Tree.{Tree, Empty, Node}
 use Rattle.cv_pool.specs.declared.node.NodeId.{NodeId}
-use Rattle.cv_syntax_trees.specs.declared.head.Head.TheVariants.{Leaf, Read, Apply, Eq, And, Or, Not, Yes, No, Par, Repl, If, Find}
+use Rattle.cv_syntax_trees.specs.declared.head.Head.TheVariants.{Leaf, Primed, Read, Apply, Eq, And, Or, Not, Yes, No, Par, Repl, If, Find}
 use Rattle.cv_syntax_trees.specs.Children.{is_empty}
 use Rattle.cv_syntax.proofs.Trees.{tree_of_NoTree}
 use Rattle.cv_print.specs.Terms.{name_text, binder_text, entry_text, entries_text, term_text, terms_text}
@@ -28,6 +28,7 @@ entries_open names mark before (Node h a b) = refl
 
 abbrev pub term_parts : List (List ℕ) → Tree → List ℕ
 term_parts names (Node (Leaf x) a b) = name_text names x
+term_parts names (Node (Primed x) a b) = name_text names x ++ codes "'"
 term_parts names (Node (Read x) a b) = name_text names x ++ codes "[" ++ terms_text names [] a ++ codes "]"
 term_parts names (Node (Apply f) a b) = name_text names f ++ codes "(" ++ terms_text names [] a ++ codes ")"
 term_parts names (Node Eq a b) = codes "(" ++ term_text names a ++ codes " = " ++ term_text names b ++ codes ")"

@@ -2,7 +2,7 @@
 use Rattle.std.specs.Prelude.{ℕ, List, [], ◌++◌, unwrap_or, slice_get, codes}
 use Rattle.cv_syntax_trees.specs.Tree.{Tree, Empty, Node}
 use Rattle.cv_syntax_trees.specs.declared.head.Head.{Head}
-use Rattle.cv_syntax_trees.specs.declared.head.Head.TheVariants.{Leaf, Read, Apply, Eq, And, Or, Not, Yes, No, Binder, Name}
+use Rattle.cv_syntax_trees.specs.declared.head.Head.TheVariants.{Leaf, Primed, Read, Apply, Eq, And, Or, Not, Yes, No, Binder, Name}
 
 -- the text of a name, by its number; a number past the list has none
 abbrev pub name_text : List (List ℕ) → ℕ → List ℕ
@@ -26,6 +26,7 @@ entries_text names mark before (Node h a b) = before ++ entry_text names mark h 
 unfoldable mutual
   pub term_text : List (List ℕ) → Tree → List ℕ
   term_text names (Node (Leaf x) a b) = name_text names x
+  term_text names (Node (Primed x) a b) = name_text names x ++ codes "'"
   term_text names (Node (Read x) a b) = name_text names x ++ codes "[" ++ terms_text names [] a ++ codes "]"
   term_text names (Node (Apply f) a b) = name_text names f ++ codes "(" ++ terms_text names [] a ++ codes ")"
   term_text names (Node Eq a b) = codes "(" ++ term_text names a ++ codes " = " ++ term_text names b ++ codes ")"

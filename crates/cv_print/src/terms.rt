@@ -39,6 +39,10 @@ pub fn push_term(
     let node = read_node(pool, term);
     match node.head {
         Head::Leaf(x) => push_name(out, names, x),
+        Head::Primed(x) => {
+            push_name(out, names, x)?;
+            out.extend_from_slice(b"'")
+        }
         Head::Read(x) => {
             push_name(out, names, x)?;
             out.extend_from_slice(b"[")?;

@@ -123,5 +123,8 @@ closing = symbol mark.Close (λ rest. refl) (λ rest. refl) refl
 pub opening_square : {names : List (List ℕ)} {p q : Bool} → Front names p q (codes "[") (one mark.OpenSquare)
 opening_square = symbol mark.OpenSquare (λ rest. refl) (λ rest. refl) refl
 
+pub prime : {names : List (List ℕ)} {p q : Bool} → Front names p q (codes "'") (one mark.Prime)
+prime = symbol mark.Prime (λ rest. refl) (λ rest. refl) refl
+
 pub closing_square : {names : List (List ℕ)} {p q : Bool} → Front names p q (codes "]") (one mark.CloseSquare)
 closing_square = symbol mark.CloseSquare (λ rest. refl) (λ rest. refl) refl

@@ -6,7 +6,7 @@ use Rattle.cv_pool.specs.names.Texts.{NoRepeat}
 use Rattle.cv_parse_tables.specs.spelling.Spelling.{mark_of_text}
 use Rattle.cv_syntax_trees.specs.Tree.{Tree, Empty, Node}
 use Rattle.cv_syntax_trees.specs.declared.head.Head.{Head}
-use Rattle.cv_syntax_trees.specs.declared.head.Head.TheVariants.{Repl, In, Out, Event, New, Let, Find, Leaf, Read, Apply, Binder, Name}
+use Rattle.cv_syntax_trees.specs.declared.head.Head.TheVariants.{Repl, In, Out, Event, New, Let, Find, Leaf, Primed, Read, Apply, Binder, Name}
 
 -- one identifier, which is none of the words of the grammar
 pub record IsName (text : List ℕ) : Type 0 where
@@ -23,6 +23,7 @@ pub record AreNames (names : List (List ℕ)) : Type 0 where
 -- the names of a node are below so many, and a label fits 64 bits
 abbrev pub head_is_named : ℕ → Head → Bool
 head_is_named count (Leaf x) = nat_lt x count
+head_is_named count (Primed x) = nat_lt x count
 head_is_named count (Read x) = nat_lt x count
 head_is_named count (Apply f) = nat_lt f count
 head_is_named count (Repl i n) = nat_lt i count && nat_lt n count

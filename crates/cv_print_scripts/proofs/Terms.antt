@@ -15,7 +15,7 @@ use Rattle.cv_print_bytes.specs.Known.{AreNames}
 use Rattle.cv_print_bytes.specs.terminals.Signs.{named, one, term_signs, terms_signs}
 use Rattle.cv_syntax_trees.specs.Tree.{Tree, Empty, Node}
 use Rattle.cv_syntax_trees.specs.declared.head.Head.{Head}
-use Rattle.cv_syntax_trees.specs.declared.head.Head.TheVariants.{Leaf, Read, Apply, Eq, And, Or, Not, Yes, No}
+use Rattle.cv_syntax_trees.specs.declared.head.Head.TheVariants.{Leaf, Primed, Read, Apply, Eq, And, Or, Not, Yes, No}
 use Rattle.cv_print_scripts.specs.Known.{head_is_known, is_known}
 use Rattle.cv_print_scripts.specs.Parted.{is_apart}
 use Rattle.cv_print_scripts.proofs.Fronts.{Told, first, none, nothing, ◌and◌, ◌last◌}
@@ -49,6 +49,9 @@ module _ {names behind : List (List ℕ)} where
 
   close : {p q : Bool} → Told names behind p q (codes ")") (one mark.Close)
   close = sure mark.Close (λ rest. refl) (λ rest. refl) refl
+
+  prime : {p q : Bool} → Told names behind p q (codes "'") (one mark.Prime)
+  prime = sure mark.Prime (λ rest. refl) (λ rest. refl) refl
 
   open_square : {p q : Bool} → Told names behind p q (codes "[") (one mark.OpenSquare)
   open_square = sure mark.OpenSquare (λ rest. refl) (λ rest. refl) refl
@@ -102,6 +105,7 @@ module _ {names behind : List (List ℕ)} where
 
       pub of_term : (t : Tree) → is_known (length names) t ≡ true → Told names behind false true (term_text names t) (term_signs t)
       of_term (Node (Leaf x) a b) k = let p = parted (length names) (Leaf x) a b k in a_name x p.here
+      of_term (Node (Primed x) a b) k = let p = parted (length names) (Primed x) a b k in first (a_name x p.here) last prime
       of_term (Node (Read x) a b) k = let p = parted (length names) (Read x) a b k in first (a_name x p.here) and open_square and of_terms no_mark a p.left last close_square
       of_term (Node (Apply f) a b) k = let p = parted (length names) (Apply f) a b k in first (a_name f p.here) and a_bracket and of_terms no_mark a p.left last close
       of_term (Node Eq a b) k = let p = parted (length names) Eq a b k in first a_bracket and of_term a p.left and equals and of_term b p.right last close

@@ -47,6 +47,7 @@ is_number h = false
 
 abbrev pub is_term : Head → Bool
 is_term (head.Leaf x) = true
+is_term (head.Primed x) = true
 is_term (head.Read x) = true
 is_term (head.Apply f) = true
 is_term head.Eq = true

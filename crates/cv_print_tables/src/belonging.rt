@@ -70,6 +70,7 @@ fn is_term(head: Head) -> bool
 {
     match head {
         Head::Leaf(_)
+        | Head::Primed(_)
         | Head::Read(_)
         | Head::Apply(_)
         | Head::Eq

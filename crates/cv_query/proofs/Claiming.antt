@@ -10,15 +10,16 @@ use Rattle.cv_syntax_trees.specs.declared.head.Head.TheVariants.{AboveRoute, AtE
 use Rattle.cv_syntax_trees.specs.Tree.{Tree, Empty, Node, first}
 use Rattle.cv_syntax.proofs.Trees.{tree_of_NoTree}
 use Rattle.cv_meaning.specs.Correspondences.{Atom, Correspondence, RightEvent, RightTerm, atom_of, atoms_of}
-use Rattle.cv_derive_rules.specs.Ends.{is_end}
-use Rattle.cv_derive_rules.specs.Given.{given_for, or_node, term_for, with_given}
-use Rattle.cv_derive_rules.specs.Lines.{Holds as HoldsTerm, IsDefined, lines_of, statements}
-use Rattle.cv_derive_rules.specs.Targets.{falsity, target}
-use Rattle.cv_derive_rules.specs.Truths.{no}
+use Rattle.cv_scene.specs.lines.Ends.{is_end}
+use Rattle.cv_scene.specs.lines.Given.{given_for, or_node, term_for, with_given}
+use Rattle.cv_scene.specs.lines.Lines.{Holds as HoldsTerm, IsDefined, lines_of, statements}
+use Rattle.cv_scene.specs.lines.Targets.{falsity, target}
+use Rattle.cv_scene.specs.lines.Truths.{no}
 use Rattle.cv_scene.specs.Derivations.{first_bad_line}
 use Rattle.cv_scene.specs.Scenes.{Scene}
 use Rattle.cv_scene.specs.Sights.{sight_at}
 use Rattle.cv_scope_rules.specs.Context.{Context}
+use Rattle.cv_query_certificates.specs.Alternatives.{only_atoms}
 use Rattle.cv_query_certificates.specs.Claims.{Claim, at_place, behind_cell, claim_of, claims_of, entry_claims, equations, joined, names_of, terms_for}
 use Rattle.cv_query_certificates.specs.EventNodes.{are_for, arguments_at}
 use Rattle.cv_query_certificates.specs.Failures.{has_end, is_right}
@@ -32,7 +33,7 @@ use Rattle.cv_syntax.proofs.Trees.{tree_at_None}
 use Rattle.cv_syntax.specs.PoolTrees.{tree_at}
 use Rattle.cv_meaning.specs.Correspondences.{leaf_names}
 use Rattle.cv_lists.proofs.Tests.{and_true}
-use Rattle.cv_derive_rules.specs.Lines.{count}
+use Rattle.cv_scene.specs.lines.Lines.{count}
 use Rattle.cv_query_entries.specs.declared.terms.given.Given.{Given}
 use Rattle.cv_query_entries.specs.declared.terms.given.Part.{Part}
 use Rattle.cv_query_entries.specs.terms.Parts.{part_tree, put_if, terms_of}
@@ -122,7 +123,7 @@ end_by s p f c r a w b e g j = j ∙ (ap₂ (ends_by s f) e g ∙ sym (claim_end
 
 abbrev pub claims_by : Scene → Correspondence → (place : ℕ) → Saying → List Claim
 claims_by s q p (Never n by) = record { by = by; targets = falsity } ∷ []
-claims_by s q p (With n ws routes) = claims_of s (at_place s q p ws) q.atoms routes
+claims_by s q p (With n ws routes) = claims_of s (at_place s q p ws) (only_atoms q) routes
 claims_by s q p Nothing = []
 
 pub entry_claims_law : (s : Scene) (q : Correspondence) (p : ℕ) (entry : Tree) (x : Saying) → x ≡ saying_of entry → entry_claims s q p entry ≡ claims_by s q p x
@@ -229,7 +230,7 @@ module _ (test : Claim → Bool) (s : Scene) (q : Correspondence) (p : ℕ) (ent
   pub never_claims : (n by : Tree) (b : Bool) → x ≡ Never n by → b ≡ test (record { by = by; targets = falsity }) → b ≡ list_all test (entry_claims s q p entry)
   never_claims n by b f g = g ∙ (sym (and_true _) ∙ sym (ap (list_all test) (entry_claims_law s q p entry x e ∙ ap (claims_by s q p) f)))
 
-  pub with_claims : (n ws routes : Tree) (b : Bool) → x ≡ With n ws routes → b ≡ list_all test (claims_of s (at_place s q p ws) q.atoms routes) → b ≡ list_all test (entry_claims s q p entry)
+  pub with_claims : (n ws routes : Tree) (b : Bool) → x ≡ With n ws routes → b ≡ list_all test (claims_of s (at_place s q p ws) (only_atoms q) routes) → b ≡ list_all test (entry_claims s q p entry)
   with_claims n ws routes b f g = g ∙ sym (ap (list_all test) (entry_claims_law s q p entry x e ∙ ap (claims_by s q p) f))
 
   pub no_claims : x ≡ Nothing → true ≡ list_all test (entry_claims s q p entry)

@@ -2,9 +2,9 @@
 use Rattle.std.specs.Prelude.{Bool, List, [], ◌∷◌}
 use Rattle.cv_syntax_trees.specs.Tree.{Tree, Empty}
 use Rattle.cv_meaning.specs.Correspondences.{Atom, RightEvent, RightTerm}
-use Rattle.cv_derive_rules.specs.Ends.{is_end}
-use Rattle.cv_derive_rules.specs.Lines.{Statement, Holds as HoldsTerm, IsDefined, lines_of, statements}
-use Rattle.cv_derive_rules.specs.Truths.{no}
+use Rattle.cv_scene.specs.lines.Ends.{is_end}
+use Rattle.cv_scene.specs.lines.Lines.{Statement, Holds as HoldsTerm, IsDefined, lines_of, statements}
+use Rattle.cv_scene.specs.lines.Truths.{no}
 use Rattle.cv_scene.specs.Scenes.{Scene}
 use Rattle.cv_query_certificates.specs.Claims.{behind_cell}
 use Rattle.cv_query_certificates.specs.EventNodes.{arguments_at, only_site}

@@ -2,7 +2,7 @@
 use Rattle.std.specs.Prelude.{◌+◌, ◌<◌, ◌^◌}
 use Rattle.cv_syntax_trees.specs.declared.head.Head.TheVariants.{EventsCertificate}
 use Rattle.cv_syntax_trees.specs.Tree.{Tree, Empty, Node}
-use Rattle.cv_derive_rules.specs.Lines.{count, lines_of}
+use Rattle.cv_scene.specs.lines.Lines.{count, lines_of}
 use Rattle.cv_query_entries.specs.Said.{Saying, Never, Nothing, Way, With, Above, ByCell, Holds, NoWay, saying_of, way_of}
 
 abbrev pub IsCountable : (derivation : Tree) → Type 0

@@ -2,4 +2,5 @@
 mod certificates;
 mod scripts;
 
+pub(crate) use certificates::is_list;
 pub use scripts::{has_unbuilt, query_numbered};

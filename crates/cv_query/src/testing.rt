@@ -4,14 +4,14 @@ ghost use Rattle.cv_syntax_trees.specs.Tree.{Node};
 ghost use Rattle.cv_syntax.specs.PoolTrees.{tree_at};
 ghost use Rattle.cv_query_certificates.specs.EventNodes.{event_places as event_places_of};
 ghost use Rattle.cv_query_certificates.specs.Failures as failures;
-ghost use Rattle.cv_query_certificates.specs.Failures.{certificate_failure, parts_failure};
+ghost use Rattle.cv_query_certificates.specs.Failures.{certificate_failure, correspondence_failure, parts_failure};
 ghost use Rattle.cv_query_certificates.specs.Forms.{left_places};
-ghost use Rattle.cv_meaning.specs.Correspondences.{correspondence_of};
 ghost use Rattle.cv_query_entries.specs.Views.{IsAskedBelow, IsReady, asked_of, game_of, scene_of, trees_of};
 ghost use Rattle.cv_query.specs.Claimed.{failure_of};
 ghost use Rattle.cv_query.specs.Countable.{AreCountableParts, IsCountableCertificate};
 
 use crate::ends::first_unfinished;
+use crate::kinds::is_list;
 use crate::right::first_wrong;
 use crate::secrets::{failed, secret_checked};
 use cv_query_entries::terms::right_alone;
@@ -120,7 +120,8 @@ fn certificate_checked(
     }
 }
 
-/// The first condition that fails of a certificate for a query that is a correspondence.
+/// The first condition that fails of a certificate for a query that is a correspondence. Where its right side isn't a list no
+/// certificate is one.
 #[tactic(auto, using(crate::proofs::Failing::failing))]
 fn correspondence_checked(
     alloc: Global,
@@ -133,14 +134,17 @@ fn correspondence_checked(
     requires second { ChildBelow (length (trees_of view.now)) query.second }
     requires certificate { ChildBelow (length (trees_of view.now)) certificate }
     requires few { IsCountableCertificate (tree_at (trees_of view.now) certificate) }
-    ensures { IfOk result (λ f. option_map failure_of f ≡ certificate_failure (scene_of view.now)
-        (correspondence_of (Node query.head (tree_at (trees_of view.now) query.first)
-        (tree_at (trees_of view.now) query.second)))
+    ensures { IfOk result (λ f. option_map failure_of f ≡ correspondence_failure (scene_of view.now)
+        (Node query.head (tree_at (trees_of view.now) query.first)
+        (tree_at (trees_of view.now) query.second))
         (tree_at (trees_of view.now) certificate)) }
 {
     let pool = &view.work.pool;
     let left = left_event(pool, first_of(pool, query.second));
     let atoms = second_of(pool, query.second);
+    if !is_list(pool, atoms) {
+        return Ok(Some(other_kind(alloc, view, left.event)?));
+    }
     let others = right_alone(alloc, pool, query.first, left.variables, atoms)?;
     let asked = Asked {
         inj: left.inj,

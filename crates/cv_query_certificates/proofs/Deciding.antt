@@ -1,18 +1,19 @@
 -- Where no condition of a certificate fails it is accepted, and the other way round.
 use Rattle.std.proofs.Common.{◌≡◌, ◌↔◌, ℕ, Bool, true, false, List, [], ◌∷◌, Option, Some, None, inl, inr, refl, sym, ap, ap₂, ◌∙◌}
-use Rattle.std.specs.Prelude.{not, is_some}
+use Rattle.std.specs.Prelude.{not, if◌then◌else◌, is_some}
 use Rattle.std.proofs.lemmas.Bool.{both_ways, and_parts, and_from}
 use Rattle.std.specs.List.{AllByRecursion, list_all}
 use Rattle.cv_lists.specs.Options.{first_of}
-use Rattle.cv_syntax_trees.specs.declared.head.Head.TheVariants.{EventsCertificate, Secret, SecretCertificate, SecretOnce}
+use Rattle.cv_syntax_trees.specs.declared.head.Head.TheVariants.{EventsCertificate, Query, Secret, SecretCertificate, SecretOnce}
 use Rattle.cv_syntax_trees.specs.Tree.{Tree, Empty, Node}
 use Rattle.cv_meaning.specs.Correspondences.{Correspondence, correspondence_of}
 use Rattle.cv_scene.specs.Derivations.{first_bad_line, unless}
 use Rattle.cv_scene.specs.Scenes.{Scene}
 use Rattle.cv_scene.specs.Sights.{sight_at}
 use Rattle.cv_query_certificates.specs.Accepted.{AreEntries, IsAccepted, IsEventsProof, IsProofOf, IsSecretProof, Proves, is_built}
+use Rattle.cv_query_certificates.specs.Alternatives.{has_list}
 use Rattle.cv_query_certificates.specs.Claims.{Claim, entry_claims}
-use Rattle.cv_query_certificates.specs.Failures.{certificate_failure, failure, first_failing, first_failure, first_surplus, first_unformed, forms_failure, has_end, is_right, parts_failure, query_failure, secret_failure}
+use Rattle.cv_query_certificates.specs.Failures.{certificate_failure, certificate_refused, correspondence_failure, failure, first_failing, first_failure, first_surplus, first_unformed, forms_failure, has_end, is_right, parts_failure, query_failure, secret_failure}
 use Rattle.cv_query_certificates.specs.Forms.{has_form, left_places}
 use Rattle.cv_query_certificates.specs.Secrets.{AreUnreadChoices, AreUnreadCopies, IsSecret, earlier, first_offence_of_choices, first_offence_of_copies}
 use Rattle.cv_lists.proofs.Options.{some_none, none_from_not_some, first_of_none}
@@ -163,18 +164,27 @@ module _ (s : Scene) (x : ℕ) where
   secret_fails_nowhere once c a = absurd a
 
 module _ (s : Scene) where
-  query_stands : (query c : Tree) → query_failure s query c ≡ None → IsProofOf s query c
-  query_stands (Node (Secret x) a b) c n = secret_stands s x false c n
-  query_stands (Node (SecretOnce x) a b) c n = secret_stands s x true c n
-  query_stands query c n = certificate_stands s (correspondence_of query) c n
+  -- a query whose right side is a list
+  of_list : (query c : Tree) → has_list query ≡ true → certificate_failure s (correspondence_of query) c ≡ correspondence_failure s query c
+  of_list query c l = sym (ap (λ b. if b then certificate_failure s (correspondence_of query) c else certificate_refused s (correspondence_of query)) l)
 
-  query_fails_nowhere : (query c : Tree) → IsProofOf s query c → query_failure s query c ≡ None
-  query_fails_nowhere (Node (Secret x) a b) c p = secret_fails_nowhere s x false c p
-  query_fails_nowhere (Node (SecretOnce x) a b) c p = secret_fails_nowhere s x true c p
-  query_fails_nowhere query c p = certificate_fails_nowhere s (correspondence_of query) c p
+  built_list : (bs sides c : Tree) → is_built (Node Query bs sides) c ≡ true → has_list (Node Query bs sides) ≡ true
+  built_list bs sides c b = (and_parts (has_list (Node Query bs sides)) _ (and_parts (not (correspondence_of (Node Query bs sides)).inj) _ b).1).0
+
+  query_stands : (query c : Tree) → is_built query c ≡ true → query_failure s query c ≡ None → IsProofOf s query c
+  query_stands (Node (Secret x) a d) c b n = secret_stands s x false c n
+  query_stands (Node (SecretOnce x) a d) c b n = secret_stands s x true c n
+  query_stands (Node Query bs sides) c b n = certificate_stands s (correspondence_of (Node Query bs sides)) c (of_list (Node Query bs sides) c (built_list bs sides c b) ∙ n)
+  query_stands query c b n = absurd (both_ways _ refl b)
+
+  query_fails_nowhere : (query c : Tree) → is_built query c ≡ true → IsProofOf s query c → query_failure s query c ≡ None
+  query_fails_nowhere (Node (Secret x) a d) c b p = secret_fails_nowhere s x false c p
+  query_fails_nowhere (Node (SecretOnce x) a d) c b p = secret_fails_nowhere s x true c p
+  query_fails_nowhere (Node Query bs sides) c b p = sym (of_list (Node Query bs sides) c (built_list bs sides c b)) ∙ certificate_fails_nowhere s (correspondence_of (Node Query bs sides)) c p
+  query_fails_nowhere query c b p = absurd (both_ways _ refl b)
 
 pub decided : (s : Scene) (query certificate : Tree) → is_built query certificate ≡ true → IsAccepted s query certificate ↔ (first_failure s (Some query) certificate ≡ None)
 decided s query certificate b = (
-  λ a. query_fails_nowhere s query certificate a.proof,
-  λ e. record { built = b; proof = query_stands s query certificate e },
+  λ a. query_fails_nowhere s query certificate b a.proof,
+  λ e. record { built = b; proof = query_stands s query certificate b e },
 )

@@ -16,9 +16,9 @@ use Rattle.cv_scope_rules.specs.Above.{standing_at}
 use Rattle.cv_scene.specs.Scenes.{has_some_new}
 use Rattle.cv_scene.specs.Terms.{is_there}
 use Rattle.cv_scene.specs.Derivations.{first_bad}
-use Rattle.cv_derive_rules.specs.Given.{with_given}
-use Rattle.cv_derive_rules.specs.Lines.{lines_of, statements}
-use Rattle.cv_derive_rules.specs.Lines as lines
+use Rattle.cv_scene.specs.lines.Given.{with_given}
+use Rattle.cv_scene.specs.lines.Lines.{lines_of, statements}
+use Rattle.cv_scene.specs.lines.Lines as lines
 use Rattle.cv_query_certificates.specs.EventNodes.{event_places}
 use Rattle.cv_query_certificates.specs.Failures.{first_failure}
 use Rattle.cv_query_certificates.specs.Secrets.{AreUnreadCopies, first_definition_but, first_other_read, sources}

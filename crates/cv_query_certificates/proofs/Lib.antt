@@ -1,2 +1,3 @@
+pub mod Alternatives
 mod Deciding
 mod Judged

@@ -11,6 +11,7 @@ use Rattle.cv_meaning.specs.Correspondences.{Correspondence, correspondence_of}
 use Rattle.cv_scene.specs.Derivations.{Derives}
 use Rattle.cv_scene.specs.Scenes.{Scene}
 use Rattle.cv_scene.specs.Sights.{sight_at}
+use Rattle.cv_query_certificates.specs.Alternatives.{has_list}
 use Rattle.cv_query_certificates.specs.Claims.{Claim, entry_claims}
 use Rattle.cv_query_certificates.specs.Forms.{has_form, left_places}
 use Rattle.cv_query_certificates.specs.Secrets.{IsSecret}
@@ -44,8 +45,8 @@ IsProofOf s (Node (Secret x) a b) certificate = IsSecretProof false s x certific
 IsProofOf s (Node (SecretOnce x) a b) certificate = IsSecretProof true s x certificate
 IsProofOf s query certificate = IsEventsProof s (correspondence_of query) certificate
 
--- What has a rule by now: certificates of correspondences without `inj` that name no distinct variables, and of secrecy without
--- pairs. Pairs, injective correspondences and distinct variables have none yet.
+-- What has a rule by now: certificates of correspondences without `inj` and without alternatives that name no distinct variables,
+-- and of secrecy without pairs. Pairs, injective correspondences, alternatives and distinct variables have none yet.
 
 abbrev pub is_distinct_part : Tree → Bool
 is_distinct_part (Node DistinctPart names e) = true
@@ -65,7 +66,8 @@ gives_no_pair (Node SecretCertificate parts e) = is_empty parts
 gives_no_pair certificate = true
 
 abbrev pub is_built : (query certificate : Tree) → Bool
-is_built (Node Query binders sides) certificate = not (correspondence_of (Node Query binders sides)).inj && names_no_distinct certificate
+is_built (Node Query binders sides) certificate =
+    not (correspondence_of (Node Query binders sides)).inj && (has_list (Node Query binders sides) && names_no_distinct certificate)
 is_built (Node (Secret x) a b) certificate = names_no_distinct certificate && gives_no_pair certificate
 is_built (Node (SecretOnce x) a b) certificate = names_no_distinct certificate && gives_no_pair certificate
 is_built query certificate = false

@@ -5,10 +5,11 @@ use Rattle.cv_syntax_trees.specs.declared.head.Head.TheVariants.{AboveRoute, AtE
 use Rattle.cv_syntax_trees.specs.Tree.{Tree, Empty, Node}
 use Rattle.cv_meaning.specs.Correspondences.{Atom, Correspondence, RightEvent, RightTerm}
 use Rattle.cv_scope_rules.specs.Context.{Context}
-use Rattle.cv_derive_rules.specs.Given.{with_given}
-use Rattle.cv_derive_rules.specs.Targets.{falsity, target}
+use Rattle.cv_scene.specs.lines.Given.{with_given}
+use Rattle.cv_scene.specs.lines.Targets.{falsity, target}
 use Rattle.cv_scene.specs.Scenes.{Scene}
 use Rattle.cv_scene.specs.Sights.{at_cell}
+use Rattle.cv_query_certificates.specs.Alternatives.{only_atoms}
 use Rattle.cv_query_certificates.specs.EventNodes.{arguments_at, only_site, place_in}
 
 -- one list of terms behind another
@@ -62,5 +63,5 @@ claims_of s put cs routes = []
 -- of what is said of the left event's node at a place
 abbrev pub entry_claims : Scene → Correspondence → (place : ℕ) → (entry : Tree) → List Claim
 entry_claims s q p (Node AtEntry n (Node NeverEntry by e)) = record { by = by; targets = falsity } ∷ []
-entry_claims s q p (Node AtEntry n (Node WithEntry ws routes)) = claims_of s (at_place s q p ws) q.atoms routes
+entry_claims s q p (Node AtEntry n (Node WithEntry ws routes)) = claims_of s (at_place s q p ws) (only_atoms q) routes
 entry_claims s q p entry = []

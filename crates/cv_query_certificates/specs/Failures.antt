@@ -6,10 +6,11 @@ use Rattle.cv_lists.specs.Options.{first_of}
 use Rattle.cv_syntax_trees.specs.declared.head.Head.TheVariants.{AtEntry, EventsCertificate, Secret, SecretCertificate, SecretOnce}
 use Rattle.cv_syntax_trees.specs.Tree.{Tree, Empty, Node, first}
 use Rattle.cv_meaning.specs.Correspondences.{Correspondence, correspondence_of}
-use Rattle.cv_derive_rules.specs.Ends.{ends_with}
+use Rattle.cv_scene.specs.lines.Ends.{ends_with}
 use Rattle.cv_scene.specs.Derivations.{first_bad_line, unless}
 use Rattle.cv_scene.specs.Scenes.{Scene}
 use Rattle.cv_scene.specs.Sights.{sight_at}
+use Rattle.cv_query_certificates.specs.Alternatives.{has_list}
 use Rattle.cv_query_certificates.specs.Claims.{Claim, entry_claims}
 use Rattle.cv_query_certificates.specs.EventNodes.{place_in}
 use Rattle.cv_query_certificates.specs.Forms.{has_form, left_places}
@@ -65,9 +66,18 @@ abbrev pub least_place : List ℕ → ℕ
 least_place [] = 0
 least_place (p ∷ ps) = p
 
+-- at the first place of the left event
+abbrev pub certificate_refused : Scene → Correspondence → Option Failure
+certificate_refused s q = failed 2 (least_place (left_places s q))
+
 abbrev pub certificate_failure : Scene → Correspondence → (certificate : Tree) → Option Failure
 certificate_failure s q (Node EventsCertificate parts e) = parts_failure s q (left_places s q) parts
-certificate_failure s q certificate = failed 2 (least_place (left_places s q))
+certificate_failure s q certificate = certificate_refused s q
+
+-- of a correspondence whose right side isn't a list none is accepted
+abbrev pub correspondence_failure : Scene → (query certificate : Tree) → Option Failure
+correspondence_failure s query certificate =
+    if has_list query then certificate_failure s (correspondence_of query) certificate else certificate_refused s (correspondence_of query)
 
 -- Of secrecy, by the first offences against the two forms. Where the first form holds nothing fails. Where the second one alone does,
 -- no pair is needed for one session; for many sessions that of the first definition with itself is, and none is given. Where neither
@@ -95,7 +105,7 @@ secret_failure once s x certificate = failed 2 0
 abbrev pub query_failure : Scene → (query certificate : Tree) → Option Failure
 query_failure s (Node (Secret x) a b) certificate = secret_failure false s x certificate
 query_failure s (Node (SecretOnce x) a b) certificate = secret_failure true s x certificate
-query_failure s query certificate = certificate_failure s (correspondence_of query) certificate
+query_failure s query certificate = correspondence_failure s query certificate
 
 -- of a certificate that has a rule
 abbrev pub first_failure : Scene → (query : Option Tree) → (certificate : Tree) → Option Failure

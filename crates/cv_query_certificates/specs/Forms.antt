@@ -7,6 +7,7 @@ use Rattle.cv_meaning.specs.Correspondences.{Atom, Correspondence, RightEvent, R
 use Rattle.cv_scope_rules.specs.Context.{Context}
 use Rattle.cv_scene.specs.Scenes.{Scene}
 use Rattle.cv_scene.specs.Sights.{Sight, is_cell_at, is_term_of, sight_at}
+use Rattle.cv_query_certificates.specs.Alternatives.{only_atoms}
 use Rattle.cv_query_certificates.specs.EventNodes.{are_for, arguments_at, event_places, is_event_above, only_site, place_in}
 
 -- the places of the left event, in preorder
@@ -48,5 +49,5 @@ has_form s q p (Node AtEntry n (Node NeverEntry by e)) = is_number p n
 has_form s q p (Node AtEntry n (Node WithEntry ws routes)) =
     is_number p n
     && (are_for q.variables (arguments_at s.game p)
-    && (have_types (sight_at s p) q.others ws && have_route_forms s p q.atoms routes))
+    && (have_types (sight_at s p) q.others ws && have_route_forms s p (only_atoms q) routes))
 has_form s q p entry = false

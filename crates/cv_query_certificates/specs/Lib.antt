@@ -1,3 +1,4 @@
+pub mod Alternatives
 pub mod EventNodes
 pub mod Claims
 pub mod Forms

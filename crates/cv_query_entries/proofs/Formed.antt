@@ -8,6 +8,7 @@ use Rattle.cv_syntax.proofs.Trees.{tree_of_NoTree}
 use Rattle.cv_meaning.specs.Correspondences.{Atom, Correspondence, atom_of, atoms_of, leaf_names}
 use Rattle.cv_scene.specs.Scenes.{Scene}
 use Rattle.cv_scene.specs.Sights.{Sight, sight_at}
+use Rattle.cv_query_certificates.specs.Alternatives.{only_atoms}
 use Rattle.cv_query_certificates.specs.EventNodes.{are_as_many, are_for, arguments_at}
 use Rattle.cv_query_certificates.specs.Failures.{first_surplus, first_unformed}
 use Rattle.cv_query_certificates.specs.Forms.{has_form, have_route_forms, have_types, is_number}
@@ -36,17 +37,17 @@ module _ (s : Scene) (q : Correspondence) (p : ℕ) (ws rs xs ms : Tree) (e : q.
   many_by = ap₂ are_for e (sym f) ∙ (for_variables xs ms ∙ sym g)
 
   pub with_few : b ≡ false → false ≡ has_with s q p ws rs
-  with_few i = sym (ap (λ c. c && (have_types (sight_at s p) q.others ws && have_route_forms s p q.atoms rs)) (many_by ∙ i))
+  with_few i = sym (ap (λ c. c && (have_types (sight_at s p) q.others ws && have_route_forms s p (only_atoms q) rs)) (many_by ∙ i))
 
   module _ (i : b ≡ true) (t : Bool) (j : t ≡ have_types (sight_at s p) q.others ws) where
-    with_types : has_with s q p ws rs ≡ (t && have_route_forms s p q.atoms rs)
-    with_types = ap₂ (λ c d. c && (d && have_route_forms s p q.atoms rs)) (many_by ∙ i) (sym j)
+    with_types : has_with s q p ws rs ≡ (t && have_route_forms s p (only_atoms q) rs)
+    with_types = ap₂ (λ c d. c && (d && have_route_forms s p (only_atoms q) rs)) (many_by ∙ i) (sym j)
 
     pub with_others : t ≡ false → false ≡ has_with s q p ws rs
-    with_others k = sym (with_types ∙ ap (λ c. c && have_route_forms s p q.atoms rs) k)
+    with_others k = sym (with_types ∙ ap (λ c. c && have_route_forms s p (only_atoms q) rs) k)
 
-    pub with_routes : t ≡ true → (r : Bool) → r ≡ have_route_forms s p q.atoms rs → r ≡ has_with s q p ws rs
-    with_routes k r l = l ∙ sym (with_types ∙ ap (λ c. c && have_route_forms s p q.atoms rs) k)
+    pub with_routes : t ≡ true → (r : Bool) → r ≡ have_route_forms s p (only_atoms q) rs → r ≡ has_with s q p ws rs
+    with_routes k r l = l ∙ sym (with_types ∙ ap (λ c. c && have_route_forms s p (only_atoms q) rs) k)
 
 pub no_entry : (s : Scene) (q : Correspondence) (ps : List ℕ) (k : ℕ) (t : Tree) → k < length ps → t ≡ Empty → Some (get_or ps k 0) ≡ first_unformed s q (drop k ps) t
 no_entry s q ps k t l e = sym (ap₂ (first_unformed s q) (drop_more ps k 0 l) e)

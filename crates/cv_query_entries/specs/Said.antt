@@ -9,6 +9,7 @@ use Rattle.cv_meaning.specs.Correspondences as query
 use Rattle.cv_meaning.specs.Correspondences.{Correspondence, RightEvent, RightTerm}
 use Rattle.cv_scene.specs.Scenes.{Scene}
 use Rattle.cv_scene.specs.Sights.{is_cell_at, sight_at}
+use Rattle.cv_query_certificates.specs.Alternatives.{only_atoms}
 use Rattle.cv_query_certificates.specs.EventNodes.{are_for, arguments_at, is_event_above, only_site, place_in}
 use Rattle.cv_query_certificates.specs.Forms.{have_route_forms, have_types, is_above_site, is_number}
 use Rattle.cv_query_entries.specs.declared.views.Atom.{Atom}
@@ -93,7 +94,7 @@ IsEntryBelow n entry.Other = Unit {0}
 
 -- the form of an entry with witnesses and routes
 abbrev pub has_with : Scene → Correspondence → (place : ℕ) → (witnesses routes : Tree) → Bool
-has_with s q p ws routes = are_for q.variables (arguments_at s.game p) && (have_types (sight_at s p) q.others ws && have_route_forms s p q.atoms routes)
+has_with s q p ws routes = are_for q.variables (arguments_at s.game p) && (have_types (sight_at s p) q.others ws && have_route_forms s p (only_atoms q) routes)
 
 abbrev pub has_saying : Scene → Correspondence → (place : ℕ) → Saying → Bool
 has_saying s q p (Never n by) = is_number p n

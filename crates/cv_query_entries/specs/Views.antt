@@ -1,5 +1,5 @@
 -- A game whose certificates are read, and a correspondence, as the code has them.
-use Rattle.std.specs.Prelude.{◌≡◌, ℕ, ◌<◌, ◌^◌, All, IfSome, List, Some, length}
+use Rattle.std.specs.Prelude.{◌≡◌, ℕ, ◌<◌, ◌^◌, All, IfSome, List, [], ◌∷◌, Some, length}
 use Rattle.cv_pool.specs.KindTree.{KindTree}
 use Rattle.cv_pool.specs.Nodes.{ChildBelow}
 use Rattle.cv_syntax.specs.Declarations.{declarations}
@@ -12,7 +12,7 @@ use Rattle.cv_directory.specs.Live.{IsLive}
 use Rattle.cv_scope_rules.specs.typing.Signature.{OfGame}
 use Rattle.cv_typing.specs.Tables.{arrays_of, directory_in}
 use Rattle.cv_scope_rules.specs.Phrases.{IsWellFormed}
-use Rattle.cv_meaning.specs.Correspondences.{Correspondence, atoms_of, leaf_names}
+use Rattle.cv_meaning.specs.Correspondences.{Correspondence, atoms_of, leaf_names, numbered}
 use Rattle.cv_scene.specs.Scenes.{Scene}
 use Rattle.cv_scene_view.specs.Kept as kept
 use Rattle.cv_query_entries.specs.declared.views.Asked.{Asked}
@@ -42,7 +42,7 @@ asked_of trees a = record {
   event = a.event;
   variables = leaf_names (tree_at trees a.variables);
   others = a.others.now;
-  atoms = atoms_of (tree_at trees a.atoms);
+  alternatives = numbered 1 (atoms_of (tree_at trees a.atoms)) ∷ [];
 }
 
 -- its nodes are below a number

@@ -2,7 +2,7 @@
 use Rattle.std.specs.Prelude.{ℕ, ◌+◌, ◌-◌, ◌^◌, min, true, false, List, [], ◌∷◌, ◌++◌, codes, length, Option, Some, None}
 use Rattle.std.specs.Fmt.{decimal}
 use Rattle.cv_outside.specs.Causes.{next_count}
-use Rattle.cv_words.specs.sample.Samples.{file_of}
+use Rattle.cv_outside.specs.words.sample.Samples.{file_of}
 use Rattle.cv_syntax.specs.declared.work.File.{File}
 use Rattle.cv_report.specs.declared.report.Command.{Command}
 use Rattle.cv_report.specs.declared.report.Command.TheVariants.{Games, Nothing, Prove, Sample}

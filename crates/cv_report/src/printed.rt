@@ -5,8 +5,8 @@ ghost use Rattle.cv_report.specs.Text.{IsLive, end_text as end_of};
 
 use crate::report::{Command, Report, Status, Verdict};
 use crate::text::{games_text, push_end, report_text};
+use cv_outside::words::sample::file_of;
 use cv_print::push_decimal;
-use cv_words::sample::file_of;
 use std::alloc::{AllocError, Global};
 
 /// The counts with one verdict more.

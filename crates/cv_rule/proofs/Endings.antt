@@ -2,9 +2,9 @@
 use Rattle.std.proofs.Common.{◌≡◌, ℕ, suc, ◌-◌, Bool, true, false, not, ◌&&◌, nat_lt, List, [], ◌∷◌, length, drop, Option, Some, None, refl, sym, ap, ◌∙◌, arith}
 use Rattle.std.proofs.lemmas.Bool.Decides.{nat_tests}
 use Rattle.cv_syntax_trees.specs.Tree.{Tree, same_tree}
-use Rattle.cv_derive_rules.specs.Ends.{ends_with, is_end, same_statement, same_statements}
-use Rattle.cv_derive_rules.specs.Lines.{Statement, Holds, IsDefined, lines_of, statements}
-use Rattle.cv_derive_rules.specs.Targets.{target}
+use Rattle.cv_scene.specs.lines.Ends.{ends_with, is_end, same_statement, same_statements}
+use Rattle.cv_scene.specs.lines.Lines.{Statement, Holds, IsDefined, lines_of, statements}
+use Rattle.cv_scene.specs.lines.Targets.{target}
 use Rattle.cv_derive_lines.specs.Lasts.{last_behind, last_of}
 use Rattle.cv_lists.proofs.Tests.{and_true}
 

@@ -3,8 +3,8 @@ use Rattle.std.proofs.Common.{◌≡◌, ℕ, ◌<◌, ◌≤◌, Bool, true, fa
 use Rattle.std.proofs.lemmas.Bool.Decides.{nat_tests}
 use Rattle.std.specs.Prelude.{◌||◌, IsSome, option_map, unwrap_or}
 use Rattle.cv_syntax_trees.specs.Tree.{Tree, size}
-use Rattle.cv_derive_rules.specs.Ends.{ends_with}
-use Rattle.cv_derive_rules.specs.Targets.{equality, falsity}
+use Rattle.cv_scene.specs.lines.Ends.{ends_with}
+use Rattle.cv_scene.specs.lines.Targets.{equality, falsity}
 use Rattle.cv_scene.specs.Derivations.{first_bad_line}
 use Rattle.cv_scene.specs.Pruning.{Part, Pruned, pruned}
 use Rattle.cv_scene.specs.Scenes.{Scene, first_reading, has_place, is_chosen, is_new, is_output_at, is_queried, is_type, part_at}

@@ -4,8 +4,8 @@ use Rattle.std.specs.Prelude.{◌&&◌, option_map}
 use Rattle.cv_directory_sorts.specs.declared.sort.Sort.{Sort}
 use Rattle.cv_scope_rules.specs.Phrases as grammar
 use Rattle.cv_syntax_trees.specs.Tree.{Tree}
-use Rattle.cv_derive_rules.specs.Ends.{ends_with}
-use Rattle.cv_derive_rules.specs.Targets.{equality, falsity}
+use Rattle.cv_scene.specs.lines.Ends.{ends_with}
+use Rattle.cv_scene.specs.lines.Targets.{equality, falsity}
 use Rattle.cv_scene.specs.Derivations.{first_bad_line}
 use Rattle.cv_scene.specs.Pruning.{Part, Pruned, pruned}
 use Rattle.cv_scene.specs.Scenes.{Scene, part_at}

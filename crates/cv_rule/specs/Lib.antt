@@ -1,3 +1,4 @@
 pub mod Listing
 pub mod Prepared
 pub mod Stated
+pub mod edit

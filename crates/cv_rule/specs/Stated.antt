@@ -3,7 +3,7 @@ use Rattle.std.specs.Prelude.{◌+◌, ◌<◌, ◌^◌, List, length, Option, S
 use Rattle.cv_pool.specs.declared.node.NodeId.{NodeId}
 use Rattle.cv_pool.specs.KindTree.{KindTree}
 use Rattle.cv_pool.specs.Nodes.{ChildBelow}
-use Rattle.cv_derive_rules.specs.Lines.{count, lines_of}
+use Rattle.cv_scene.specs.lines.Lines.{count, lines_of}
 use Rattle.cv_edit_changes.specs.pruning.Bodies.{part_of}
 use Rattle.cv_syntax_trees.specs.Tree.{size}
 use Rattle.cv_syntax.specs.PoolTrees.{tree_at}

@@ -1,6 +1,7 @@
-// The conditions of steps.
+// The steps that keep every chance: their conditions, and how a game changes by one.
 #![tactic(auto)]
 
+pub mod edit;
 mod lines;
 mod listing;
 mod rewriting;

@@ -1,8 +1,8 @@
 ghost use Rattle.std.specs.Prelude.{◌≡◌, ◌<◌, length};
 ghost use Rattle.cv_pool.specs.Nodes.{ChildBelow};
 ghost use Rattle.cv_syntax.specs.PoolTrees.{tree_at};
-ghost use Rattle.cv_derive_rules.specs.Ends as ends;
-ghost use Rattle.cv_derive_rules.specs.Targets.{equality, falsity};
+ghost use Rattle.cv_scene.specs.lines.Ends as ends;
+ghost use Rattle.cv_scene.specs.lines.Targets.{equality, falsity};
 
 use cv_derive_lines::{Claim, last_claim};
 use cv_derive_reasons::inferences::{is_alone, is_over};

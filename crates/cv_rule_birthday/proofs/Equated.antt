@@ -4,8 +4,8 @@ use Rattle.cv_syntax_trees.specs.Children.{is_empty}
 use Rattle.cv_syntax_trees.specs.declared.head.Head.{Head}
 use Rattle.cv_syntax_trees.specs.declared.head.Head.TheVariants.{And, Eq}
 use Rattle.cv_syntax_trees.specs.Tree.{Tree, Empty, Node}
-use Rattle.cv_derive_rules.specs.Inferences.{equations_of}
-use Rattle.cv_derive_rules.specs.Truths.{yes}
+use Rattle.cv_scene.specs.lines.Inferences.{equations_of}
+use Rattle.cv_scene.specs.lines.Truths.{yes}
 use Rattle.cv_scope_rules.specs.Context.{items}
 use Rattle.cv_rule_birthday.specs.Comparing.{same_indices}
 use Rattle.cv_rule_birthday.specs.Needs.{made_of_equations, made_of_indices}

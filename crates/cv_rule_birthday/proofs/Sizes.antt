@@ -5,7 +5,7 @@ use Rattle.cv_syntax_trees.specs.declared.head.Head.{Head}
 use Rattle.cv_syntax_trees.specs.declared.head.Head.TheVariants.{And, Apply, Cons, Eq, Leaf, No, Not, Or, Read, Yes}
 use Rattle.cv_syntax_trees.specs.Head.{weight}
 use Rattle.cv_syntax_trees.specs.Tree.{Tree, Empty, Node, first, first_place, second_place, size}
-use Rattle.cv_derive_rules.specs.Inferences.{equations_of}
+use Rattle.cv_scene.specs.lines.Inferences.{equations_of}
 use Rattle.cv_scope_rules.specs.Context.{items}
 use Rattle.cv_scope_rules.specs.Phrases.{Phrase, Nil, Term, Terms, is_phrase, parts}
 use Rattle.cv_steps.proofs.Flat.{open_phrase}

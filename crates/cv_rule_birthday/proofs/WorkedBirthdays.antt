@@ -7,7 +7,7 @@ use Rattle.cv_syntax_trees.specs.Tree.{Tree, Node, size, depth, subtree, same_tr
 use Rattle.cv_syntax.specs.faults.Walk.{first_fault}
 use Rattle.cv_directory_sorts.specs.Sites.{first_index, first_site, bound_sort, is_untyped_in}
 use Rattle.cv_directory_sorts.specs.Counting.{count}
-use Rattle.cv_derive_rules.specs.Truths.{yes}
+use Rattle.cv_scene.specs.lines.Truths.{yes}
 use Rattle.cv_scope_rules.specs.typing.Parts.{first_in}
 use Rattle.cv_scope_rules.specs.typing.Typing.{binders_differ}
 use Rattle.cv_scope_rules.specs.Context.{context_at}
@@ -17,7 +17,7 @@ use Rattle.cv_scope_rules.specs.Phrases.{is_phrase, binds_none}
 use Rattle.cv_scene.specs.Scenes.{names}
 use Rattle.cv_scene.specs.Terms.{is_there}
 use Rattle.cv_costs.specs.Factors.{with_parameter}
-use Rattle.cv_costs.specs.Large.{first_other_site}
+use Rattle.cv_scene.specs.Large.{first_other_site}
 use Rattle.cv_steps.specs.Rewriting.{has_term_at}
 use Rattle.cv_steps.specs.Judgements.{Accepted, Judgement, Refused, judgement_of}
 use Rattle.cv_costs.specs.wording.Changing.{changed_at}

@@ -4,8 +4,8 @@ use Rattle.std.specs.Prelude.{ℕ, Bool, false, ◌&&◌, ◌==◌, if◌then◌
 use Rattle.std.specs.List.{list_any}
 use Rattle.cv_syntax_trees.specs.declared.head.Head.TheVariants.{Eq}
 use Rattle.cv_syntax_trees.specs.Tree.{Tree, Node, first}
-use Rattle.cv_derive_rules.specs.Inferences.{equations_of}
-use Rattle.cv_derive_rules.specs.Truths.{yes}
+use Rattle.cv_scene.specs.lines.Inferences.{equations_of}
+use Rattle.cv_scene.specs.lines.Truths.{yes}
 use Rattle.cv_scope_rules.specs.Context.{items}
 use Rattle.cv_scope_rules.specs.Phrases.{Inputs}
 use Rattle.cv_scene.specs.Instances.{is_read_of}

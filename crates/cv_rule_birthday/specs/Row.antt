@@ -8,7 +8,7 @@ use Rattle.cv_scene.specs.Scenes.{Scene}
 use Rattle.cv_steps.specs.Rows.{unless, unless_at}
 use Rattle.cv_steps.specs.Steps.{Fails, Leads, Row, Step}
 use Rattle.cv_costs.specs.Collisions.{one_for_pairs}
-use Rattle.cv_costs.specs.Large.{first_other_site, is_large}
+use Rattle.cv_scene.specs.Large.{first_other_site, is_large}
 use Rattle.cv_costs.specs.wording.Changing.{changed_at}
 use Rattle.cv_rule_birthday.specs.Comparing.{compared, first_uncompared, is_one_of}
 use Rattle.cv_rule_birthday.specs.Conditions.{stands_at_places}

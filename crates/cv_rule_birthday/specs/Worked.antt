@@ -7,7 +7,7 @@ use Rattle.cv_syntax_trees.specs.Builders.{branch, find, input, leaf, read}
 use Rattle.cv_syntax_trees.specs.Declarations.{Declaration, Named}
 use Rattle.cv_syntax_trees.specs.Tree.{Tree, Empty, Node, lone}
 use Rattle.cv_meaning_runs.specs.Replacement.{if_tree}
-use Rattle.cv_derive_rules.specs.Truths.{yes}
+use Rattle.cv_scene.specs.lines.Truths.{yes}
 use Rattle.cv_scene.specs.Scenes.{Scene}
 use Rattle.cv_steps.specs.Judgements.{Accepted, Judgement, Refused}
 use Rattle.cv_steps.specs.Steps.{Collisions, Cost}

@@ -2,7 +2,7 @@ ghost use Rattle.std.specs.Prelude.{◌≡◌, ◌&&◌, ◌+◌, ◌<◌, ◌�
 ghost use Rattle.cv_pool.specs.Nodes.{ChildBelow};
 ghost use Rattle.cv_syntax_trees.specs.Children as children;
 ghost use Rattle.cv_syntax.specs.PoolTrees.{tree_at};
-ghost use Rattle.cv_derive_rules.specs.Inferences.{equations_of};
+ghost use Rattle.cv_scene.specs.lines.Inferences.{equations_of};
 ghost use Rattle.cv_scope_rules.specs.Context.{items};
 ghost use Rattle.cv_edit_places.specs.Parts.{AreLive, made_by, stack_of};
 ghost use Rattle.cv_rule_birthday.specs.Comparing.{compared, same_indices};

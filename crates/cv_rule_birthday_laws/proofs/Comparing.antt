@@ -12,7 +12,7 @@ use Rattle.cv_meaning.specs.Terms.{bit, found_in, is_one, leaf_value_from, or_ze
 use Rattle.cv_meaning_laws.specs.adequacy.Typed.{AreBelowParameters}
 use Rattle.cv_meaning_laws.proofs.Counts.{same_tuple_exact, same_tuple_refl}
 use Rattle.cv_meaning_chances.specs.Tests.{some_equal}
-use Rattle.cv_derive_rules.specs.Inferences.{equations_of}
+use Rattle.cv_scene.specs.lines.Inferences.{equations_of}
 use Rattle.cv_scope_rules.specs.Context.{items}
 use Rattle.cv_scope_rules.specs.Phrases.{Nil, Term, is_oracle_phrase}
 use Rattle.cv_scope_runs.specs.Reads.{LeafAssigned, TermAssigned}

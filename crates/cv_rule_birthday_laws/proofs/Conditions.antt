@@ -8,7 +8,7 @@ use Rattle.cv_directory_sorts.specs.Sites.{first_of}
 use Rattle.cv_scope_rules.specs.Made.{made_by}
 use Rattle.cv_scope_rules.specs.Sites.{Variable}
 use Rattle.cv_scene.specs.Scenes.{has_news_alone, is_new_head}
-use Rattle.cv_costs.specs.Large.{chooses, first_other_site}
+use Rattle.cv_scene.specs.Large.{chooses, first_other_site}
 use Rattle.cv_rule_birthday.specs.Comparing.{first_uncompared, is_compared_at, is_one_of}
 
 -- at each of the places two cells are compared

@@ -30,7 +30,7 @@ use Rattle.cv_costs.specs.wording.Changing.{AreTermsAt, changed_at}
 use Rattle.cv_costs.specs.wording.Facts.{HoldsIn, IsOfArray, KeepsValues}
 use Rattle.cv_costs.proofs.wording.Chances.{distance_within}
 use Rattle.cv_rule_fresh.proofs.Standing.{There, there}
-use Rattle.cv_costs.specs.Large.{first_other_site}
+use Rattle.cv_scene.specs.Large.{first_other_site}
 use Rattle.cv_rule_birthday.specs.Comparing.{compared, first_uncompared, is_comparison, is_one_of}
 use Rattle.cv_rule_birthday_laws.specs.chosen.Drawn.{AreDrawn, choices_of, pairs_over}
 use Rattle.cv_rule_birthday_laws.proofs.Comparing.{comparison_says, still_compared}

@@ -5,7 +5,7 @@ use Rattle.std.specs.List.{AllByRecursion}
 use Rattle.cv_syntax_trees.specs.declared.head.Head.{Head}
 use Rattle.cv_syntax_trees.specs.declared.head.Head.TheVariants.{And, Branch, Eq, In, Read, Yes}
 use Rattle.cv_syntax_trees.specs.Tree.{Tree, Empty, Node, first, first_place, second_place}
-use Rattle.cv_derive_rules.specs.Inferences.{equations_of}
+use Rattle.cv_scene.specs.lines.Inferences.{equations_of}
 use Rattle.cv_directory_sorts.specs.Sites.{index_here}
 use Rattle.cv_scope_rules.specs.Context.{items}
 use Rattle.cv_scope_rules.specs.Phrases.{Phrase, Arm, Binders, Body, Guards, Inputs, Nil, Pattern, Term, both_are, is_phrase, parts}

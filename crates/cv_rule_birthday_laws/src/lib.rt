@@ -18,7 +18,7 @@ ghost use Rattle.cv_scope_rules.specs.Phrases.{IsWellFormed};
 ghost use Rattle.cv_scope_rules.specs.typing.Parts.{IsTypedGame};
 ghost use Rattle.cv_derive_laws.specs.stores.Steps.{IsSound};
 ghost use Rattle.cv_costs.specs.wording.Changing.{changed_at};
-ghost use Rattle.cv_costs.specs.Large.{first_other_site};
+ghost use Rattle.cv_scene.specs.Large.{first_other_site};
 ghost use Rattle.cv_rule_birthday.specs.Comparing.{compared, first_uncompared, is_one_of};
 ghost use Rattle.cv_rule_birthday.specs.Row.{birthday_step};
 ghost use Rattle.cv_rule_birthday_laws.specs.chosen.Drawn.{pairs_over};

@@ -11,7 +11,7 @@ use Rattle.cv_meaning.specs.Candidates.{Candidate, are_assigned, candidate, cand
 use Rattle.cv_meaning.specs.Memory.{Indices, Store, tuple}
 use Rattle.cv_meaning.specs.Terms.{is_one, value}
 use Rattle.cv_meaning.specs.Replaced.{replaced}
-use Rattle.cv_derive_rules.specs.Truths.{no}
+use Rattle.cv_scene.specs.lines.Truths.{no}
 use Rattle.cv_scope_rules.specs.Context.{Context, known_at}
 use Rattle.cv_scope_rules.specs.Made.{is_bound, is_own_of}
 use Rattle.cv_scope_rules.specs.Phrases.{Phrase, Arm, Branches, Inputs, Term, is_phrase}

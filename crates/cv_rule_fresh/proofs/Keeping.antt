@@ -27,7 +27,7 @@ use Rattle.cv_meaning_runs.specs.Replacement.{Process}
 use Rattle.cv_meaning_chances.specs.rewording.Rewording.{IsReworded}
 use Rattle.cv_meaning_chances.proofs.rewording.Alike.{holds_reworded}
 use Rattle.cv_meaning_chances.proofs.rewording.SameCells.{same_cells}
-use Rattle.cv_derive_rules.specs.Truths.{no}
+use Rattle.cv_scene.specs.lines.Truths.{no}
 use Rattle.cv_scope_rules.specs.typing.Parts.{IsTypedGame}
 use Rattle.cv_typing_runs.proofs.Games.{restrictions}
 use Rattle.cv_scope_rules.specs.Context.{Context, cell_of, known_at, nothing_known}

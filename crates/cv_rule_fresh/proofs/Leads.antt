@@ -3,7 +3,7 @@ use Rattle.std.proofs.Common.{◌≡◌, ℕ, ◌&&◌, Bool, true, false, cond,
 use Rattle.std.proofs.lemmas.Bool.{and_parts}
 use Rattle.cv_syntax_trees.specs.declared.head.Head.TheVariants.{Eq}
 use Rattle.cv_syntax_trees.specs.Tree.{Tree, Node, same_tree}
-use Rattle.cv_derive_rules.specs.Truths.{no}
+use Rattle.cv_scene.specs.lines.Truths.{no}
 use Rattle.cv_meaning.specs.Replaced.{replaced}
 use Rattle.cv_scope_rules.specs.Context.{cell_of}
 use Rattle.cv_scope_rules.specs.Phrases.{Inputs}
@@ -12,7 +12,7 @@ use Rattle.cv_scene.specs.Scenes.{Scene, part_at}
 use Rattle.cv_scene.specs.Sights.{variable_of}
 use Rattle.cv_scene.specs.Terms.{has_site, replications_at}
 use Rattle.cv_steps.specs.Rewriting.{has_term_at}
-use Rattle.cv_costs.specs.Large.{is_large}
+use Rattle.cv_scene.specs.Large.{is_large}
 use Rattle.cv_rule_fresh.specs.collisions.Choices.{Choice, choice_above, parameters_at}
 use Rattle.cv_costs.specs.names.Reach.{is_in_scope_at}
 use Rattle.cv_rule_fresh.specs.collisions.Equalities.{Equality, cell_variable, current_variable, sides_of}

@@ -2,7 +2,7 @@
 use Rattle.std.proofs.Common.{◌≡◌, ℕ, ◌≤◌, Bool, true, false, cond, nat_lt, List, length, Some, None, refl, sym, ap, ap₂, subst, ◌∙◌, arith, ltb-true}
 use Rattle.cv_pool.specs.KindTree.{KindTree}
 use Rattle.cv_syntax_trees.specs.Tree.{Tree, size}
-use Rattle.cv_derive_rules.specs.Truths.{no}
+use Rattle.cv_scene.specs.lines.Truths.{no}
 use Rattle.cv_meaning.specs.Replaced.{replaced}
 use Rattle.cv_scene.specs.Scenes.{Scene, has_place}
 use Rattle.cv_bound.specs.Sums.{coefficients, terms_of}
@@ -18,7 +18,7 @@ use Rattle.cv_edit_places.specs.declared.parts.Parts.{Parts}
 use Rattle.cv_edit_places.specs.declared.plan.Failure.{Failure}
 use Rattle.cv_edit_places.specs.declared.plan.Priced.{Priced}
 use Rattle.cv_rule_fresh.specs.collisions.Choices as choices
-use Rattle.cv_costs.specs.Large.{is_large}
+use Rattle.cv_scene.specs.Large.{is_large}
 use Rattle.cv_rule_fresh.specs.collisions.Choices.{choice_above, parameters_at}
 use Rattle.cv_costs.specs.names.Reach.{is_in_scope_at}
 use Rattle.cv_rule_fresh.specs.collisions.Equalities.{current_variable}

@@ -15,7 +15,7 @@ use Rattle.cv_meaning.specs.Replaced.{replaced}
 use Rattle.cv_meaning_runs.specs.Replacement as runs
 use Rattle.cv_meaning_runs.specs.Replacement.{Process, before_body}
 use Rattle.cv_meaning_chances.specs.rewording.Rewording.{IsReworded, same, kept, reworded, in_parallel, in_list, in_find, in_branch, has_terms, SaysTheSame}
-use Rattle.cv_derive_rules.specs.Truths.{no}
+use Rattle.cv_scene.specs.lines.Truths.{no}
 use Rattle.cv_scope_rules.specs.Context.{Context}
 use Rattle.cv_scope_rules.specs.Made.{OwnUnassigned}
 use Rattle.cv_scope_rules.specs.Phrases.{Phrase, Nil, Inputs, Body, Then, Else, Branches, Arm, Pattern, Message, Cells, Terms, Term, is_phrase}

@@ -13,7 +13,7 @@ use Rattle.cv_scope_rules.specs.declared.position.Position.TheVariants.{Bodies, 
 use Rattle.cv_scope_rules.specs.Context.{Context, cells_of, first_context, second_context}
 use Rattle.cv_scope_rules.specs.Rules.{Names, is_index}
 use Rattle.cv_scope_rules.specs.Tests.{is_in_reach}
-use Rattle.cv_derive_rules.specs.Given.{given_for, or_node, with_given}
+use Rattle.cv_scene.specs.lines.Given.{given_for, or_node, with_given}
 use Rattle.cv_derive_reasons.specs.cells.Cells.{defined_second, is_among_under}
 use Rattle.cv_derive_reasons.specs.substitution.Under.{under}
 use Rattle.cv_costs.specs.names.Reach.{is_in_scope, is_in_scope_by}

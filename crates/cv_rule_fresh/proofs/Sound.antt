@@ -10,7 +10,7 @@ use Rattle.cv_meaning_chances.specs.Fractions.{HasTapes}
 use Rattle.cv_meaning_chances.specs.values.Values.{HasValuesIn}
 use Rattle.cv_scope_rules.specs.typing.Signature.{declaration_of}
 use Rattle.cv_typing_runs.specs.Games.{HasDeclaredSorts}
-use Rattle.cv_derive_rules.specs.Truths.{no}
+use Rattle.cv_scene.specs.lines.Truths.{no}
 use Rattle.cv_scope_rules.specs.Phrases.{Inputs, Term, is_phrase}
 use Rattle.cv_scene.specs.Scenes.{Scene, is_type_by}
 use Rattle.cv_steps.specs.Steps.{Cost}
@@ -20,7 +20,7 @@ use Rattle.cv_steps_laws.proofs.Indices.{Lacks, bound_before, lacking_changed, l
 use Rattle.cv_steps_laws.proofs.Keeping.{accepted}
 use Rattle.cv_steps_laws.proofs.Sorts.{declared_rewritten, term_declared}
 use Rattle.cv_steps_laws.proofs.Values.{still_values, type_value, values_put}
-use Rattle.cv_costs.specs.Large.{is_large_by}
+use Rattle.cv_scene.specs.Large.{is_large_by}
 use Rattle.cv_rule_fresh.specs.collisions.Fresh.{fresh_step}
 use Rattle.cv_rule_fresh.proofs.Keeping.{misses}
 use Rattle.cv_rule_fresh.proofs.Leads.{BySide, LeadsFresh, fresh_leads}

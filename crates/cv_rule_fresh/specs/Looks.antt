@@ -12,7 +12,7 @@ use Rattle.cv_scope_rules.specs.Context.{Context, items}
 use Rattle.cv_scope_rules.specs.Rules.{Names}
 use Rattle.cv_scope_rules.specs.Tests.{reads_in_reach}
 use Rattle.cv_derive_reasons.specs.cells.Cells.{defined_second}
-use Rattle.cv_derive_rules.specs.Truths.{no}
+use Rattle.cv_scene.specs.lines.Truths.{no}
 use Rattle.cv_scene.specs.Scenes.{Scene}
 use Rattle.cv_steps.specs.Changes.{change_at}
 use Rattle.cv_steps.specs.Steps.{Leads, Row}

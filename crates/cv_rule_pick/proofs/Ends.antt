@@ -1,8 +1,8 @@
 -- The last lines, where there are as many as are wanted.
 use Rattle.std.proofs.Common.{◌≡◌, ◌-◌, ◌≤◌, ◌&&◌, not, nat_lt, le-ltb, List, drop, length, map, ap₂, ◌∙◌}
 use Rattle.std.proofs.lemmas.List.{drop-map, length-map}
-use Rattle.cv_derive_rules.specs.Ends.{is_end, same_statements}
-use Rattle.cv_derive_rules.specs.Lines.{Statement}
+use Rattle.cv_scene.specs.lines.Ends.{is_end, same_statements}
+use Rattle.cv_scene.specs.lines.Lines.{Statement}
 
 pub is_end_of : {A B : Type 0} (S : A → Statement) (W : B → Statement) (ts : List A) (us : List B) → length us ≤ length ts → is_end (map S ts) (map W us) ≡ same_statements (map S (drop (length ts - length us) ts)) (map W us)
 is_end_of S W ts us l =

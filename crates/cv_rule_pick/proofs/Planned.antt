@@ -5,8 +5,8 @@ use Rattle.cv_syntax_trees.specs.Tree.{Tree, Empty, size}
 use Rattle.cv_syntax.specs.PoolTrees.{tree_at}
 use Rattle.cv_scope_rules.specs.Context.{cells_of, items}
 use Rattle.cv_scope_rules.specs.Made.{is_own_at}
-use Rattle.cv_derive_rules.specs.Ends.{ends_with, is_end}
-use Rattle.cv_derive_rules.specs.Lines.{Statement, lines_of, statements}
+use Rattle.cv_scene.specs.lines.Ends.{ends_with, is_end}
+use Rattle.cv_scene.specs.lines.Lines.{Statement, lines_of, statements}
 use Rattle.cv_scene.specs.Derivations.{first_bad_line}
 use Rattle.cv_scene.specs.Scenes.{Scene, has_place, part_at}
 use Rattle.cv_scene.specs.Sights.{sight_at}

@@ -13,7 +13,7 @@ use Rattle.cv_derive_lines.specs.declared.lines.Line.{Line}
 use Rattle.cv_derive_lines.specs.declared.lines.Claim.{Claim}
 use Rattle.cv_derive_lines.specs.Views.{front, in_front, statement_of}
 use Rattle.cv_derive_lines.proofs.Fronts.{line_at, no_lines}
-use Rattle.cv_derive_rules.specs.Lines.{Holds, IsDefined, Lines, Statement, lines_of, statements}
+use Rattle.cv_scene.specs.lines.Lines.{Holds, IsDefined, Lines, Statement, lines_of, statements}
 use Rattle.cv_rule_pick.specs.Picking.{equations, guards}
 
 -- with one more

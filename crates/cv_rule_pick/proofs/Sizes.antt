@@ -10,7 +10,7 @@ use Rattle.cv_scope_rules.specs.Context.{Context, cell_of, cells_of, known_at}
 use Rattle.cv_scope_rules.specs.Phrases.{Term, is_phrase}
 use Rattle.cv_scope_rules.specs.Scope.{names_of}
 use Rattle.cv_scope_rules.specs.typing.Signature.{Function}
-use Rattle.cv_derive_rules.specs.Given.{or_node}
+use Rattle.cv_scene.specs.lines.Given.{or_node}
 use Rattle.cv_path.proofs.extents.Extents.{size_part}
 use Rattle.cv_scene.specs.Scenes.{Scene, or_empty, part_at}
 use Rattle.cv_scene.specs.Terms.{is_sort, is_term_at}

@@ -4,7 +4,7 @@ use Rattle.cv_syntax_trees.specs.declared.head.Head.{Head}
 use Rattle.cv_syntax_trees.specs.declared.head.Head.TheVariants.{Leaf}
 use Rattle.cv_syntax_trees.specs.Tree.{Tree, Empty, Node}
 use Rattle.cv_syntax.proofs.Trees.{tree_of_NoTree}
-use Rattle.cv_derive_rules.specs.Given.{given_for, or_node, with_given}
+use Rattle.cv_scene.specs.lines.Given.{given_for, or_node, with_given}
 use Rattle.cv_derive_reasons.specs.substitution.Under.{under}
 use Rattle.cv_rule_pick.specs.Needs.{made_with, unless_put}
 use Rattle.cv_rule_pick.specs.Picking.{term_of, with_terms}

@@ -11,7 +11,7 @@ use Rattle.cv_syntax.specs.PoolTrees.{tree_at}
 use Rattle.cv_syntax.specs.declared.open.Opened.{Opened}
 use Rattle.cv_directory_sorts.specs.Sites.{first_of}
 use Rattle.cv_scope_rules.specs.Context.{cells_of}
-use Rattle.cv_derive_rules.specs.Lines.{count, lines_of}
+use Rattle.cv_scene.specs.lines.Lines.{count, lines_of}
 use Rattle.cv_costs.specs.names.Naming.{is_between, names_one}
 use Rattle.cv_rule_pick.specs.Picking.{Arm}
 use Rattle.cv_rule_pick.specs.declared.branches.OnlyBranch.{OnlyBranch}

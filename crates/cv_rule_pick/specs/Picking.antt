@@ -8,8 +8,8 @@ use Rattle.cv_directory_sorts.specs.Sites.{first_of}
 use Rattle.cv_directory_sorts.specs.declared.sort.Sort.TheVariants.{BelowParameter}
 use Rattle.cv_meaning_runs.specs.Replacement.{before_body}
 use Rattle.cv_scope_rules.specs.Context.{cells_of, items}
-use Rattle.cv_derive_rules.specs.Given.{or_node}
-use Rattle.cv_derive_rules.specs.Targets.{target}
+use Rattle.cv_scene.specs.lines.Given.{or_node}
+use Rattle.cv_scene.specs.lines.Targets.{target}
 use Rattle.cv_scene.specs.Scenes.{Scene, part_at}
 use Rattle.cv_scene.specs.Sights.{variable_of}
 use Rattle.cv_scene.specs.Terms.{is_sort, is_term_at, replications_at}

@@ -6,7 +6,7 @@ use Rattle.cv_syntax_trees.specs.declared.head.Head.TheVariants.{Eq}
 use Rattle.cv_syntax_trees.specs.Tree.{Tree, Node}
 use Rattle.cv_syntax.specs.PoolTrees.{tree_at}
 use Rattle.cv_scope_rules.specs.Context.{cell_of, cells_of}
-use Rattle.cv_derive_rules.specs.Lines.{Holds, IsDefined, Statement}
+use Rattle.cv_scene.specs.lines.Lines.{Holds, IsDefined, Statement}
 use Rattle.cv_rule_pick.specs.Picking.{with_terms}
 use Rattle.cv_rule_pick.specs.declared.targets.Given.{Given}
 use Rattle.cv_rule_pick.specs.declared.targets.Wanted.{Wanted}

@@ -32,7 +32,7 @@ use Rattle.cv_derive_laws.specs.stores.Holding.{HoldAtVisit, IsReady}
 use Rattle.cv_derive_laws.specs.stores.Reached.{HasTypes}
 use Rattle.cv_derive_laws.specs.stores.Soundness.{DerivationsHold}
 use Rattle.cv_derive_laws.specs.stores.Truth.{IsTrue}
-use Rattle.cv_derive_rules.specs.Lines.{lines_of, statements}
+use Rattle.cv_scene.specs.lines.Lines.{lines_of, statements}
 use Rattle.cv_scene.specs.Scenes.{Scene, part_at}
 use Rattle.cv_costs.specs.names.Reach.{is_in_scope}
 use Rattle.cv_rule_fresh.proofs.Scope.{scope_asked}

@@ -27,7 +27,7 @@ use Rattle.cv_scene.specs.Instances.{is_read_of}
 use Rattle.cv_scene.specs.Scenes.{Scene, part_at}
 use Rattle.cv_scene.specs.Sights.{sight_at, variable_of}
 use Rattle.cv_scene.specs.Terms.{is_sort, is_term_at, replications_at, replications_by}
-use Rattle.cv_derive_rules.specs.Ends.{ends_with}
+use Rattle.cv_scene.specs.lines.Ends.{ends_with}
 use Rattle.cv_derive_laws.specs.stores.Holding.{IsReady}
 use Rattle.cv_steps.specs.Changes.{change_at}
 use Rattle.cv_steps.specs.Rewriting.{sort_at}

@@ -26,7 +26,7 @@ use Rattle.cv_steps_laws.proofs.Keeping.{accepted, next_formed}
 use Rattle.cv_steps_laws.proofs.Sorts.{sorts_kept}
 use Rattle.cv_steps_laws.proofs.Unletted.{IsKept, has_names, is_bare}
 use Rattle.cv_steps_laws.proofs.Values.{values_changed, values_kept}
-use Rattle.cv_derive_rules.specs.Ends.{ends_with}
+use Rattle.cv_scene.specs.lines.Ends.{ends_with}
 use Rattle.cv_derive_laws.proofs.stores.Costs.{free_taped, kept_costs}
 use Rattle.cv_derive_laws.specs.stores.Steps.{IsSound}
 use Rattle.cv_costs.specs.names.Naming.{is_one_queried}

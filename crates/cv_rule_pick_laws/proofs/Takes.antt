@@ -37,7 +37,7 @@ use Rattle.cv_scope_runs.specs.Reads.{IsKept}
 use Rattle.cv_scope_runs.proofs.Contexts.{Holds, Matches}
 use Rattle.cv_scope_runs.proofs.Standing.{Stands, in_first, in_second, stands_known}
 use Rattle.cv_scope_runs.proofs.TermsLater.{Readable, store_extends, value_kept}
-use Rattle.cv_derive_rules.specs.Lines.{lines_of, statements}
+use Rattle.cv_scene.specs.lines.Lines.{lines_of, statements}
 use Rattle.cv_derive_laws.specs.stores.Holding.{IsReady}
 use Rattle.cv_derive_laws.specs.stores.Soundness.{DerivationsHold}
 use Rattle.cv_derive_laws.specs.stores.Truth.{IsTrue}

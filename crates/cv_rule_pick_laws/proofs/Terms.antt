@@ -11,7 +11,7 @@ use Rattle.cv_meaning.specs.Memory.{Indices, Store}
 use Rattle.cv_meaning.specs.Terms.{bit, is_one, or_zero, value, values}
 use Rattle.cv_scope_rules.specs.Context.{cell_of}
 use Rattle.cv_scope_rules.specs.Phrases.{Phrase, Nil, Pattern, Message, Indices as Names, Binders, Terms, Term, is_phrase}
-use Rattle.cv_derive_rules.specs.Given.{or_node}
+use Rattle.cv_scene.specs.lines.Given.{or_node}
 use Rattle.cv_scene.specs.Instances.{is_read_of}
 use Rattle.cv_scene.specs.Sights.{variable_of}
 use Rattle.cv_steps_laws.proofs.Unletted.{is_bare}

@@ -20,10 +20,10 @@ use Rattle.cv_scope_rules.specs.Context.{context_at}
 use Rattle.cv_scope_rules.specs.Sites.{sites_from}
 use Rattle.cv_scope_rules.specs.Made.{is_bound}
 use Rattle.cv_scope_rules.specs.Phrases.{is_phrase, binds_none}
-use Rattle.cv_derive_rules.specs.Given.{with_given}
-use Rattle.cv_derive_rules.specs.Lines.{lines_of, statements}
-use Rattle.cv_derive_rules.specs.Lines as lines
-use Rattle.cv_derive_rules.specs.Truths.{yes}
+use Rattle.cv_scene.specs.lines.Given.{with_given}
+use Rattle.cv_scene.specs.lines.Lines.{lines_of, statements}
+use Rattle.cv_scene.specs.lines.Lines as lines
+use Rattle.cv_scene.specs.lines.Truths.{yes}
 use Rattle.cv_scene.specs.Derivations.{first_bad}
 use Rattle.cv_scene.specs.Late.{is_defined_in, is_late}
 use Rattle.cv_scene.specs.Scenes.{Scene}

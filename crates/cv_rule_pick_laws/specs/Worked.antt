@@ -11,7 +11,7 @@ use Rattle.cv_scene.specs.Scenes.{Scene}
 use Rattle.cv_steps.specs.Steps.{Step, Zero}
 use Rattle.cv_steps.specs.Judgements.{Accepted, Judgement, Refused}
 use Rattle.cv_steps_laws.specs.Worked.{copies, copy_of, scene_of, sends_copy}
-use Rattle.cv_derive_rules.specs.Truths.{no, yes}
+use Rattle.cv_scene.specs.lines.Truths.{no, yes}
 use Rattle.cv_derive.specs.worked.Worked.{and, is_there, late, line, one, two}
 use Rattle.cv_rule_pick.specs.Row.{pick_step}
 

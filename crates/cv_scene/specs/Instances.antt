@@ -10,7 +10,7 @@ use Rattle.cv_directory_sorts.specs.declared.sort.Sort.TheVariants.{OfType}
 use Rattle.cv_directory_sorts.specs.Sites.{first_of}
 use Rattle.cv_scope_rules.specs.typing.Signature.{Signature, sort_of, variable_sort}
 use Rattle.cv_scope_rules.specs.typing.Parts.{nothing_above}
-use Rattle.cv_derive_rules.specs.Given.{with_given}
+use Rattle.cv_scene.specs.lines.Given.{with_given}
 use Rattle.cv_scene.specs.Scenes.{Scene, or_empty}
 use Rattle.cv_scene.specs.Sights.{variable_of}
 use Rattle.cv_scene.specs.Terms.{is_sort, signature_in}

@@ -9,7 +9,7 @@ use Rattle.cv_syntax_trees.specs.Tree.{Tree, Empty, Node, first, lone, same_tree
 use Rattle.cv_scope_rules.specs.Context.{items}
 use Rattle.cv_scope_rules.specs.Made.{is_bound, made_by}
 use Rattle.cv_scope_rules.specs.Sites.{Variable}
-use Rattle.cv_derive_rules.specs.Inferences.{Visible, cited_term}
+use Rattle.cv_scene.specs.lines.Inferences.{Visible, cited_term}
 use Rattle.cv_scene.specs.Sights.{Pair, Sight, variable_of}
 
 -- some node of the tree defines the variable

@@ -1,4 +1,5 @@
 pub mod Scenes
+pub mod Large
 pub mod Terms
 pub mod Sights
 pub mod Late
@@ -15,3 +16,4 @@ pub mod Standing
 pub mod Reductions
 pub mod Cells
 pub mod Apt
+pub mod lines

@@ -3,7 +3,7 @@
 use Rattle.std.specs.Prelude.{ℕ, ◌+◌, List, ◌++◌, map, Option, Some}
 use Rattle.cv_syntax_trees.specs.Tree.{Tree, chain}
 use Rattle.cv_scope_rules.specs.Above.{stands_at}
-use Rattle.cv_derive_rules.specs.Given.{with_given}
+use Rattle.cv_scene.specs.lines.Given.{with_given}
 use Rattle.cv_scene.specs.Late.{index_term}
 use Rattle.cv_scene.specs.Scenes.{Scene}
 use Rattle.cv_scene.specs.Sights.{Sight, cells_by, facts_by, sight_at}

@@ -12,12 +12,12 @@ use Rattle.cv_directory_sorts.specs.declared.sort.Sort.TheVariants.{OfType}
 use Rattle.cv_scope_rules.specs.typing.Signature.{declaration_of}
 use Rattle.cv_scope_rules.specs.Context.{items}
 use Rattle.cv_scope_rules.specs.Rules.{is_index}
-use Rattle.cv_derive_rules.specs.Given.{with_given}
-use Rattle.cv_derive_rules.specs.Inferences.{Visible, are_equal_by, cited_cell, equations_of, is_both, is_left, is_refuted, is_reflexive, is_replaced_by, is_right_side, is_symmetric, is_transitive, number_of, cited_term}
-use Rattle.cv_derive_rules.specs.Lines.{Statement, Holds, IsDefined}
+use Rattle.cv_scene.specs.lines.Given.{with_given}
+use Rattle.cv_scene.specs.lines.Inferences.{Visible, are_equal_by, cited_cell, equations_of, is_both, is_left, is_refuted, is_reflexive, is_replaced_by, is_right_side, is_symmetric, is_transitive, number_of, cited_term}
+use Rattle.cv_scene.specs.lines.Lines.{Statement, Holds, IsDefined}
 use Rattle.cv_scene.specs.Late.{is_late_cell}
 use Rattle.cv_scene.specs.Sights.{Pair, Sight, from_one, is_term_of, is_typed, site_cells, site_facts}
-use Rattle.cv_derive_rules.specs.Truths.{is_truth, no}
+use Rattle.cv_scene.specs.lines.Truths.{is_truth, no}
 
 -- there is a tree, and this is it
 abbrev pub is_tree : Option Tree → Tree → Bool

@@ -13,8 +13,8 @@ use Rattle.cv_scope_rules.specs.Behind.{sites_of}
 use Rattle.cv_scope_rules.specs.Above.{stands_at}
 use Rattle.cv_scene.specs.Scenes.{Scene}
 use Rattle.cv_scene.specs.Terms.{above_under, is_bool_under, is_sort, is_term_under, is_there, names_under, replications_at, signature_in}
-use Rattle.cv_derive_rules.specs.Given.{with_given}
-use Rattle.cv_derive_rules.specs.Lines.{Statement, Holds, IsDefined}
+use Rattle.cv_scene.specs.lines.Given.{with_given}
+use Rattle.cv_scene.specs.lines.Lines.{Statement, Holds, IsDefined}
 
 -- What a second copy adds, of a place of its own. Its indices have names that the game doesn't have. The facts there and the cells that
 -- are directly defined there, over these names; the equations that are given; and the variables whose values are taken to differ.

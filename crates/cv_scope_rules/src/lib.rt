@@ -1,4 +1,4 @@
-// The rules of array scope: what a scoped game is, which node breaks a rule first, and laws of scoped games.
+// The rules of types and of array scope: what a typed and scoped game is, which node breaks a rule first, and laws of such games.
 #![tactic(auto)]
 
 mod fault;

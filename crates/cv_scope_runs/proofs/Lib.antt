@@ -14,7 +14,5 @@ pub mod PathRuns
 pub mod ServeRuns
 pub mod FactsRuns
 pub mod KeysListed
-pub mod Covered
-pub mod PlainlyDirect
 pub mod ConsultedOnce
 pub mod InputsApart

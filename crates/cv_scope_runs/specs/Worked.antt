@@ -7,7 +7,6 @@ use Rattle.cv_syntax_trees.specs.declared.head.Head.TheVariants.{Yield, Let, Yes
 use Rattle.cv_syntax_trees.specs.Tree.{Tree, Empty, Node, lone, chain}
 use Rattle.cv_meaning.specs.Interpretation.{Setting, setting_of}
 use Rattle.cv_meaning.specs.Runs.{Adversary, Answer, Move, Calls}
-use Rattle.cv_meaning.specs.Correspondences.{Correspondence, correspondence_of}
 use Rattle.cv_syntax_trees.specs.Builders.{leaf, read, input, output, event, correspondence, occurs}
 use Rattle.cv_meaning_laws.specs.Worked.{adversary}
 use Rattle.cv_scope_rules.specs.Worked.{call, constants, key, repl, restriction, sends, starts}
@@ -16,9 +15,6 @@ use Rattle.cv_scope_rules.specs.Worked.{call, constants, key, repl, restriction,
 abbrev pub begun_query : Tree
 begun_query = correspondence ((9, 5) ∷ []) (occurs false 12 (leaf 9 ∷ [])) (occurs false 11 (leaf 9 ∷ []) ∷ [])
 
-abbrev pub begun_before : Correspondence
-begun_before = correspondence_of begun_query
-
 -- !1<=2 in(3[1], ()); new 4:5; event 11(4[1]); out(6[1], ()); in(8[1], ()); event 12(4[1]); yield
 abbrev pub sessions : Tree
 sessions = repl 1 (input 3 (1 ∷ []) [] (restriction 4 (event 11 (read 4 (leaf 1 ∷ []) ∷ []) (output 6 (1 ∷ []) [] (input 8 (1 ∷ []) [] (event 12 (read 4 (leaf 1 ∷ []) ∷ []) (lone Yield)))))))
@@ -26,13 +22,6 @@ sessions = repl 1 (input 3 (1 ∷ []) [] (restriction 4 (event 11 (read 4 (leaf 
 -- 30(x)
 abbrev pub applied : ℕ → Tree
 applied x = Node (Apply 30) (chain (leaf x ∷ [])) Empty
-
--- event 12(9) ==> event 11(30(9), 20)
-abbrev pub told_query : Tree
-told_query = correspondence ((9, 5) ∷ []) (occurs false 12 (leaf 9 ∷ [])) (occurs false 11 (applied 9 ∷ leaf 20 ∷ []) ∷ [])
-
-abbrev pub told_before : Correspondence
-told_before = correspondence_of told_query
 
 -- in(3, (4:5)); event 11(30(4), 20); event 12(4); yield
 abbrev pub told : Tree

@@ -1,33 +1,24 @@
-// Laws of well-formed games and contexts: single assignment, what holds at a visited place, and correspondences that
-// are met by the shape of a game.
+// Laws of well-formed games and contexts: single assignment, and what holds at a visited place.
 #![tactic(auto)]
 
 ghost use Rattle.std.specs.Prelude.{◌≡◌, ℕ, List, [], ◌∷◌, false, true};
 ghost use Rattle.std.specs.List.{AllByRecursion, IsDistinct};
-ghost use Rattle.cv_syntax_trees.specs.declared.head.Head.TheVariants.{Query};
 ghost use Rattle.cv_syntax_trees.specs.Declarations.{Declaration};
-ghost use Rattle.cv_syntax_trees.specs.Tree.{Node, Tree};
+ghost use Rattle.cv_syntax_trees.specs.Tree.{Tree};
 ghost use Rattle.cv_meaning.specs.Tapes.{Tape, blank, same_cell};
-ghost use Rattle.cv_meaning.specs.Interpretation.{Interpretation, Setting, is_constant_of, setting_of};
+ghost use Rattle.cv_meaning.specs.Interpretation.{Setting, is_constant_of};
 ghost use Rattle.cv_meaning.specs.Memory.{Memory};
-ghost use Rattle.cv_meaning.specs.Runs.{Adversary, Events, Mode};
+ghost use Rattle.cv_meaning.specs.Runs.{Adversary, Mode};
 ghost use Rattle.cv_meaning.specs.Experiments.{Breaks, holds_on, run, visits_of_run};
 ghost use Rattle.cv_meaning.specs.Consulted.{consulted};
-ghost use Rattle.cv_meaning.specs.Correspondences.{Correspondence, broken, correspondence_of};
-ghost use Rattle.cv_meaning.specs.Chances.{AtMost, zero_chance};
-ghost use Rattle.cv_meaning.specs.Advantage.{advantage, chance_of};
-ghost use Rattle.cv_meaning.specs.Direct.{IsPlainlyDirect};
 ghost use Rattle.cv_meaning_runs.specs.Listed.{AreKeysListed, has_no_calls};
 ghost use Rattle.cv_meaning_runs.specs.Spots.{same_address};
 ghost use Rattle.cv_scope_rules.specs.Branches.{Pairs};
 ghost use Rattle.cv_scope_rules.specs.Scope.{IsScoped};
 ghost use Rattle.cv_scope_rules.specs.Worked.{cell_found, constants, finds};
 ghost use Rattle.cv_scope_runs.specs.Worked.{
-  begun_before,
   begun_query,
   sessions,
-  told_before,
-  told_query,
   told,
   keyed,
   assigned_again,
@@ -175,52 +166,26 @@ pub fn consulted_keys_are_listed()
         AreKeysListed g m a context t }
 {}
 
-/// A correspondence whose right events all stand above each left event in a well-formed game, be it in an
-/// earlier input or outside of replications, is broken on no tape, whatever the interpretation and the
-/// adversary. So no adversary has an advantage against such a query.
-pub fn plainly_direct_is_never_broken()
-    ensures tapes { (ds : List Declaration) (g : Setting) (q : Correspondence) (a : Adversary)
-        (game : Tree) (t : Tape) → HasConstantsOf ds g → IsWellFormed ds game →
-        IsPlainlyDirect q game → broken g q (run g Events a game t).memory.events ≡ false }
-    ensures chance { (ds : List Declaration) (g : Setting) (query : Tree) (a : Adversary)
-        (game : Tree) → HasConstantsOf ds g → IsWellFormed ds game →
-        IsPlainlyDirect (correspondence_of query) game →
-        AtMost (chance_of g (Breaks query) a game) zero_chance }
-    ensures query { (ds : List Declaration) (g : Setting) (binders sides : Tree) (a : Adversary)
-        (game : Tree) → HasConstantsOf ds g → IsWellFormed ds game →
-        IsPlainlyDirect (correspondence_of (Node Query binders sides)) game →
-        AtMost (advantage g (Node Query binders sides) a game) zero_chance }
-{}
-
-/// Worked games that are well-formed. In the first, below a replication, the right event stands in an
-/// earlier input than the left one: there the correspondence is met by the shape of the game. The second
-/// has a `find`. In the third the right event has a function's value and a constant as arguments. The fourth
-/// tree is a context, which makes a call under a key and sends the result.
+/// Worked games that are well-formed. The first has two inputs below a replication, and the second a `find`.
+/// In the third an event has a function's value and a constant as arguments. The fourth tree is a context,
+/// which makes a call under a key and sends the result.
 pub fn worked_games()
     ensures sessions { IsWellFormed [] sessions }
-    ensures shape { IsPlainlyDirect begun_before sessions }
-    ensures never { (i : Interpretation) (a : Adversary) →
-        AtMost (chance_of (setting_of [] i) (Breaks begun_query) a sessions) zero_chance }
     ensures found { IsWellFormed [] (finds (cell_found ∷ [])) }
     ensures terms { IsWellFormed constants told }
-    ensures terms_shape { IsPlainlyDirect told_before told }
     ensures context { IsWellFormedContext [] keyed }
     ensures no_game { IsWellFormed [] keyed → ⊥ }
-    ensures terms_never { (i : Interpretation) (a : Adversary) →
-        AtMost (chance_of (setting_of constants i) (Breaks told_query) a told) zero_chance }
 {}
 
 /// Array scope is needed: a game in the grammar that assigns a variable again breaks a correspondence
-/// that its shape meets. And so is it that no constant is bound: a game in array scope whose replication
-/// index is named as a constant does the same.
+/// whose right event stands above the left one with the same argument. And so is it that no constant is
+/// bound: a game in array scope whose replication index is named as a constant does the same.
 pub fn scope_and_constants_are_needed()
-    ensures shape { IsPlainlyDirect begun_before assigned_again }
     ensures unscoped { IsScoped constants assigned_again → ⊥ }
     ensures phrase { is_phrase Inputs assigned_again ≡ true }
     ensures unbound { binds_none (is_constant_of constants) assigned_again ≡ true }
     ensures broken { holds_on two_values (Breaks begun_query)
         (caller 1 (0 ∷ [])) assigned_again blank ≡ true }
-    ensures captured_shape { IsPlainlyDirect begun_before constant_captured }
     ensures captured_scope { IsScoped constants constant_captured }
     ensures captured_phrase { is_phrase Inputs constant_captured ≡ true }
     ensures captured { binds_none (is_constant_of constants) constant_captured ≡ false }

@@ -3,6 +3,7 @@ pub mod Built
 pub mod Deciding
 pub mod Fitting
 pub mod Made
+mod NodeRows
 pub mod Reading
 pub mod Refusals
 pub mod Steps

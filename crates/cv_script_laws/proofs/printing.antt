@@ -4,3 +4,4 @@ pub mod Good
 pub mod Levels
 pub mod Scripts
 pub mod Trees
+mod WrittenRows

@@ -1,3 +1,4 @@
 pub mod Sequences
 pub mod Chains
 pub mod secrets
+pub mod files

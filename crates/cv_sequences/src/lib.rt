@@ -1,8 +1,9 @@
-// The laws of accepted steps and of sequences of games.
+// The laws of accepted steps and of sequences of games: what an accepted file gives them, costs, secrecy, and bounds that are carried back.
 #![tactic(auto)]
 
 pub mod bounds;
 pub mod costs;
+pub mod files;
 pub mod secrets;
 pub mod soundness;
 

@@ -5,8 +5,8 @@ use Rattle.cv_syntax_trees.specs.declared.head.Head.{Head}
 use Rattle.cv_syntax_trees.specs.declared.head.Head.TheVariants.{Cons, Find, If}
 use Rattle.cv_syntax_trees.specs.Tree.{Tree, Empty, Node, first_place}
 use Rattle.cv_meaning.specs.Replaced.{is_output}
-use Rattle.cv_derive_rules.specs.Ends.{ends_with}
-use Rattle.cv_derive_rules.specs.Targets.{falsity}
+use Rattle.cv_scene.specs.lines.Ends.{ends_with}
+use Rattle.cv_scene.specs.lines.Targets.{falsity}
 use Rattle.cv_scene.specs.Scenes.{Scene, part_at}
 use Rattle.cv_scene.specs.Sights.{sight_at}
 use Rattle.cv_scene.specs.Derivations.{Derives, first_bad_line}

@@ -1,13 +1,13 @@
 -- The rows of steps: the first condition that fails, with its place, or the next game and the cost. This profile's own.
 use Rattle.std.specs.Prelude.{ℕ, Bool, not, ◌||◌, if◌then◌else◌, Option, Some, None}
 use Rattle.cv_syntax_trees.specs.Tree.{Tree}
-use Rattle.cv_derive_rules.specs.Ends.{ends_with}
+use Rattle.cv_scene.specs.lines.Ends.{ends_with}
 use Rattle.cv_scene.specs.Scenes.{Scene, is_output_at, is_new, is_queried, is_chosen, first_reading, part_at}
 use Rattle.cv_scene.specs.Sights.{sight_at}
 use Rattle.cv_scene.specs.Derivations.{first_bad_line}
 use Rattle.cv_scene.specs.Pruning.{Part, Pruned, pruned}
 use Rattle.cv_steps.specs.Steps.{Row, Fails, Leads, Zero}
-use Rattle.cv_derive_rules.specs.Targets.{equality, falsity}
+use Rattle.cv_scene.specs.lines.Targets.{equality, falsity}
 use Rattle.cv_steps.specs.Rewriting.{has_sort_of, is_rewritable_at, sort_at}
 use Rattle.cv_steps.specs.Changes.{change_at, split_process, after_let, after_new, without, only}
 use Rattle.cv_steps.specs.Renaming.{renamed}

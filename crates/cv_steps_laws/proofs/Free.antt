@@ -1,8 +1,8 @@
 -- The eight elementary steps cost nothing.
 use Rattle.std.proofs.Common.{ℕ, not, ◌||◌, Option, Some, None}
 use Rattle.cv_syntax_trees.specs.Tree.{Tree}
-use Rattle.cv_derive_rules.specs.Ends.{ends_with}
-use Rattle.cv_derive_rules.specs.Targets.{equality, falsity}
+use Rattle.cv_scene.specs.lines.Ends.{ends_with}
+use Rattle.cv_scene.specs.lines.Targets.{equality, falsity}
 use Rattle.cv_scene.specs.Derivations.{first_bad_line}
 use Rattle.cv_scene.specs.Pruning.{Part, Pruned, pruned}
 use Rattle.cv_scene.specs.Scenes.{Scene, first_reading, is_chosen, is_new, is_output_at, is_queried, part_at}

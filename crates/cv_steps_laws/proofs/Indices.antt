@@ -12,7 +12,7 @@ use Rattle.cv_scope_rules.specs.Phrases.{Phrase, Inputs, Term, parts, is_phrase}
 use Rattle.cv_scene.specs.Pruning.{Part, Pruned, pruned}
 use Rattle.cv_scene.specs.Scenes.{Scene, head_reads, or_empty, part_at}
 use Rattle.cv_scene.specs.Terms.{has_index}
-use Rattle.cv_derive_rules.specs.Given.{given_for, or_node, term_for, with_given}
+use Rattle.cv_scene.specs.lines.Given.{given_for, or_node, term_for, with_given}
 use Rattle.cv_scene.specs.Sights.{at_cell}
 use Rattle.cv_steps.specs.Changes.{change_at, only, without}
 use Rattle.cv_steps.specs.Renaming.{renamed, renamed_head}

@@ -23,7 +23,7 @@ use Rattle.cv_scope_rules.specs.Phrases.{is_phrase, binds_none, IsWellFormed}
 use Rattle.cv_scene.specs.Scenes.{KnowsQueries, names, first_reading, has_news_alone, has_some_new}
 use Rattle.cv_steps.specs.Elementary.{let_step, new_step, rename_step, split_step, unlet_step, unnew_step}
 use Rattle.cv_steps.specs.Steps.{Zero}
-use Rattle.cv_derive_rules.specs.Given.{with_given}
+use Rattle.cv_scene.specs.lines.Given.{with_given}
 use Rattle.cv_scope_rules.specs.Behind.{sites_in}
 use Rattle.cv_steps.specs.Changes.{without}
 use Rattle.cv_steps.specs.Renaming.{renamed}

@@ -11,7 +11,7 @@ use Rattle.cv_parse.specs.Parsed.{Parsed, bool_type, parsed}
 use Rattle.cv_parse.proofs.Exactness.{said_is_saying}
 use Rattle.cv_parse_grammar.proofs.yields.Naming.{all_used}
 use Rattle.cv_parse_grammar.proofs.yields.Yielding.{forms_tell}
-use Rattle.cv_group.specs.rules.Faults.{equivalences_in}
+use Rattle.cv_group_rules.specs.Faults.{equivalences_in}
 use Rattle.cv_match_laws.specs.functions.Forms.{HasLeftForm}
 use Rattle.cv_context_files.proofs.forms.Rows.{HaveLeftForms, IsNamed, OfSort, all_rows, of_file}
 

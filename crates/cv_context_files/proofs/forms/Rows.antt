@@ -24,7 +24,7 @@ use Rattle.cv_parse_grammar.specs.yields.Yields.{Yields}
 use Rattle.cv_parse_laws.proofs.Rows.{rows}
 use Rattle.cv_parse_grammar.proofs.yields.Yielding.{Gives, anything, before, behind, below, follow, leveled, one_of, several, turned}
 use Rattle.cv_scope_rules.specs.Phrases.{Term, is_phrase}
-use Rattle.cv_group.specs.rules.Rules.{each_function, is_one_binder, is_term}
+use Rattle.cv_group_rules.specs.Rules.{each_function, is_one_binder, is_term}
 use Rattle.cv_match_laws.specs.functions.Forms.{HasLeftForm, is_whole}
 
 -- no name is barred

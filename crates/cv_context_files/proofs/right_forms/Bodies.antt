@@ -20,7 +20,7 @@ use Rattle.cv_parse_grammar.specs.yields.Yields.{IfThere, Yields}
 use Rattle.cv_parse_laws.proofs.Rows.{rows}
 use Rattle.cv_parse_grammar.proofs.yields.Yielding.{Gives, anything, before, behind, below, follow, leveled, one_of, perhaps, several, turned, weaker}
 use Rattle.cv_scope_rules.specs.Phrases.{Term, is_phrase}
-use Rattle.cv_group.specs.rules.Rules.{have_one_index}
+use Rattle.cv_group_rules.specs.Rules.{have_one_index}
 use Rattle.cv_inline_names_laws.specs.accepted.RightBodies.{are_body_cells, are_right_branches, are_right_functions, is_body_term, is_empty, is_right_body, is_right_side}
 use Rattle.cv_inline_names_laws.specs.cells.Layout.{are_right_texts, is_right_text, is_term}
 use Rattle.cv_context_files.specs.right_forms.Forms.{IsWrittenFunction}

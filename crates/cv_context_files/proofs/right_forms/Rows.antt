@@ -15,7 +15,7 @@ use Rattle.cv_parse_grammar.specs.Phrases.{Sort, inside}
 use Rattle.cv_parse_grammar.specs.Rules.{file}
 use Rattle.cv_parse_grammar.proofs.yields.Yielding.{anything, before, behind, follow, one_of, several, turned}
 use Rattle.cv_scope_rules.specs.Phrases.{Term, is_phrase}
-use Rattle.cv_group.specs.rules.Rules.{branches_have_one_index, have_one_index}
+use Rattle.cv_group_rules.specs.Rules.{branches_have_one_index, have_one_index}
 use Rattle.cv_context_files.specs.right_forms.Forms.{HasRightForm}
 use Rattle.cv_context_files.proofs.right_forms.Bodies.{IsRightGroup, Makes, of_group, of_term, written}
 use Rattle.cv_context_files.proofs.right_forms.Terms.{term_body}

@@ -7,8 +7,8 @@ use Rattle.cv_parse_notation.specs.declared.sign.Sign.{Sign}
 use Rattle.cv_parse.specs.Parsed.{Parsed, parsed}
 use Rattle.cv_meaning.specs.contexts.Groups.{Function, Right, side_group}
 use Rattle.cv_scope_rules.specs.typing.Parts.{AreTyped, IsTypedFile, Part, body_parts, declaration_parts, equivalence_parts, game_part, side_arrays, sort_by_bound}
-use Rattle.cv_group.specs.rules.Faults.{equivalences_in}
-use Rattle.cv_group.specs.rules.Rules.{branches_have_one_index}
+use Rattle.cv_group_rules.specs.Faults.{equivalences_in}
+use Rattle.cv_group_rules.specs.Rules.{branches_have_one_index}
 use Rattle.cv_inline_names_laws.specs.cells.Layout.{IsRightFunction}
 use Rattle.cv_context_files.specs.right_forms.Forms.{HasRightForm, IsWrittenFunction}
 use Rattle.cv_context_files.proofs.right_forms.Files.{right_forms}

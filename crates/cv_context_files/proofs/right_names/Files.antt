@@ -18,7 +18,7 @@ use Rattle.cv_parse_laws.specs.Shapes.{IsFree}
 use Rattle.cv_parse_grammar.specs.yields.Yields.{AllUsed}
 use Rattle.cv_parse_grammar.proofs.yields.Naming.{all_used, bound_undeclared, undeclared_constant}
 use Rattle.cv_parse_grammar.proofs.yields.Yielding.{forms_tell}
-use Rattle.cv_group.specs.rules.Faults.{equivalences_in}
+use Rattle.cv_group_rules.specs.Faults.{equivalences_in}
 use Rattle.cv_context_files.specs.right_names.Bindings.{HasFreeNames}
 use Rattle.cv_context_files.proofs.right_names.Bodies.{IsNamed, OfSort, all_rows}
 use Rattle.cv_context_files.proofs.right_names.Rows.{HaveFreeSides, of_file}

@@ -5,8 +5,8 @@ use Rattle.cv_syntax_trees.specs.declared.head.Head.{Head}
 use Rattle.cv_syntax_trees.specs.declared.head.Head.TheVariants.{Read}
 use Rattle.cv_syntax_trees.specs.Declarations.{Declaration}
 use Rattle.cv_syntax_trees.specs.Tree.{Tree, Empty, Node}
-use Rattle.cv_group.specs.rules.Symbols.{symbols_of}
-use Rattle.cv_group.specs.rules.Faults.{IsAccepted}
+use Rattle.cv_group_rules.specs.Symbols.{symbols_of}
+use Rattle.cv_group_rules.specs.Faults.{IsAccepted}
 use Rattle.cv_scope_rules.specs.Phrases.{IsWellFormed}
 use Rattle.cv_scope_rules.specs.Scope.{names_of as scope_names}
 use Rattle.cv_scope_rules.specs.Standing.{at_root}

@@ -5,7 +5,7 @@ use Rattle.cv_syntax_trees.specs.declared.head.Head.{Head}
 use Rattle.cv_syntax_trees.specs.declared.head.Head.TheVariants.{Leaf, Read, Apply, Eq, And, Or, Not, Yes, No, Cons, Key, Call as CallHead}
 use Rattle.cv_syntax_trees.specs.Declarations.{Declaration}
 use Rattle.cv_syntax_trees.specs.Tree.{Tree, Empty, Node, chain}
-use Rattle.cv_derive_rules.specs.Given.{or_node, term_for, with_given}
+use Rattle.cv_scene.specs.lines.Given.{or_node, term_for, with_given}
 use Rattle.cv_scope_rules.specs.Phrases.{Body, Nil, Phrase, Term, Terms, binds_none, both_are, head_binds_none, is_oracle_phrase, is_phrase, oracle_parts, parts}
 use Rattle.cv_scene.specs.Contexts.{call_terms}
 use Rattle.cv_scene.specs.Instances.{Call, Matching, call_at, names_of, terms_of}

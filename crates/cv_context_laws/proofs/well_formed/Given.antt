@@ -6,7 +6,7 @@ use Rattle.cv_syntax_trees.specs.declared.head.Head.{Head}
 use Rattle.cv_syntax_trees.specs.declared.head.Head.TheVariants.{Leaf, Read, Apply, Eq, And, Or, Not, Yes, No, Cons}
 use Rattle.cv_syntax_trees.specs.Declarations.{Declaration}
 use Rattle.cv_syntax_trees.specs.Tree.{Tree, Empty, Node, first_place, second_place}
-use Rattle.cv_derive_rules.specs.Given.{or_node, term_for, with_given}
+use Rattle.cv_scene.specs.lines.Given.{or_node, term_for, with_given}
 use Rattle.cv_scope_rules.specs.Context.{first_position, replications_below, second_position}
 use Rattle.cv_scope_rules.specs.Phrases.{Nil, Term, Terms, is_phrase}
 use Rattle.cv_scope_rules.specs.declared.position.Position.{Position}

@@ -10,7 +10,7 @@ use Rattle.cv_scope_rules.specs.Context.{first_position, replications_below, sec
 use Rattle.cv_scope_rules.specs.Phrases.{Phrase, Term, is_phrase}
 use Rattle.cv_scope_rules.specs.declared.position.Position.{Position}
 use Rattle.cv_scene.specs.Sights.{variable_of}
-use Rattle.cv_derive_rules.specs.Given.{or_node, term_for, with_given}
+use Rattle.cv_scene.specs.lines.Given.{or_node, term_for, with_given}
 use Rattle.cv_typing_runs.proofs.SameSites.{phrase_open}
 use Rattle.cv_scene.specs.Instances.{Call, Matching, call_at, is_read_of, names_of, terms_of}
 use Rattle.cv_scene.specs.Refusals.{uses}

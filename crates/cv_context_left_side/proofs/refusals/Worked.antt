@@ -2,7 +2,7 @@
 use Rattle.std.proofs.Common.{◌≡◌, ℕ, zero, suc, ◌+◌, ◌<◌, false, true, [], length, None, refl, arith}
 use Rattle.cv_syntax.specs.faults.Walk.{first_fault}
 use Rattle.cv_syntax_trees.specs.Tree.{same_tree, size}
-use Rattle.cv_derive_rules.specs.Given.{with_given}
+use Rattle.cv_scene.specs.lines.Given.{with_given}
 use Rattle.cv_directory_sorts.specs.Sites.{bound_sort, first_index, first_site}
 use Rattle.cv_meaning.specs.Interpretation.{is_constant_of}
 use Rattle.cv_scope_rules.specs.typing.Parts.{IsTypedGame, game_part, signature_of}
@@ -19,10 +19,10 @@ use Rattle.cv_scope_rules.specs.Standing.{at_root}
 use Rattle.cv_scope_rules.proofs.First.{scoped_where_none}
 use Rattle.cv_scene.specs.Scenes.{first_reading, is_queried, names}
 use Rattle.cv_typing_runs.specs.Games.{HasKnownNames, are_known}
-use Rattle.cv_group.specs.rules.Symbols.{symbols_of}
-use Rattle.cv_group.specs.rules.Faults.{BoundNames, IsAccepted, LeftIsTerm, OneIndex, ReadNames, SameShape, keeps}
-use Rattle.cv_group.specs.rules.Rules as rules
-use Rattle.cv_group.specs.rules.Rules.{all_agree, are_cells, defines, each_function, has_name, has_read, have_one_index, is_asked, range_of, reads}
+use Rattle.cv_group_rules.specs.Symbols.{symbols_of}
+use Rattle.cv_group_rules.specs.Faults.{BoundNames, IsAccepted, LeftIsTerm, OneIndex, ReadNames, SameShape, keeps}
+use Rattle.cv_group_rules.specs.Rules as rules
+use Rattle.cv_group_rules.specs.Rules.{all_agree, are_cells, defines, each_function, has_name, has_read, have_one_index, is_asked, range_of, reads}
 use Rattle.cv_scene.specs.Contexts.{AreAnswers}
 use Rattle.cv_scene.specs.Instances.{standing_for}
 use Rattle.cv_scene.specs.Sites.{sites_in}

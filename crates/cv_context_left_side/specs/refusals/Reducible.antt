@@ -1,7 +1,7 @@
 -- What an accepted file and the conditions of the cryptographic step give of a game, an equivalence and a key. This profile's own.
 use Rattle.std.specs.Prelude.{◌≡◌, List, length, None}
-use Rattle.cv_group.specs.rules.Symbols.{symbols_of}
-use Rattle.cv_group.specs.rules.Faults.{IsAccepted}
+use Rattle.cv_group_rules.specs.Symbols.{symbols_of}
+use Rattle.cv_group_rules.specs.Faults.{IsAccepted}
 use Rattle.cv_scope_rules.specs.Phrases.{IsWellFormed}
 use Rattle.cv_scope_rules.specs.typing.Parts.{IsTypedGame}
 use Rattle.cv_typing_runs.specs.Games.{HasKnownNames}

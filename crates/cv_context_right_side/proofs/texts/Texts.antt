@@ -9,8 +9,8 @@ use Rattle.cv_syntax_trees.specs.Declarations.{Declaration}
 use Rattle.cv_syntax_trees.specs.Tree.{Tree, Empty, Node, chain, first, head_reads_only, reads_only}
 use Rattle.cv_meaning.specs.Interpretation.{is_constant_of}
 use Rattle.cv_directory_sorts.specs.Sites.{first_site}
-use Rattle.cv_group.specs.rules.Symbols.{symbols_of}
-use Rattle.cv_group.specs.rules.Faults.{IsAccepted}
+use Rattle.cv_group_rules.specs.Symbols.{symbols_of}
+use Rattle.cv_group_rules.specs.Faults.{IsAccepted}
 use Rattle.cv_scope_rules.specs.Phrases.{Inputs, IsWellFormed}
 use Rattle.cv_scope_rules.specs.Rules.{is_index}
 use Rattle.cv_scope_rules.specs.Scope.{is_variable, names_of as scope_names}

@@ -2,7 +2,7 @@
 use Rattle.std.proofs.Common.{◌≡◌, ℕ, ◌<◌, ◌==◌, true, false, List, [], length, refl, sym, subst, arith}
 use Rattle.std.specs.List.{AllByRecursion, IsDistinct, list_any}
 use Rattle.cv_syntax_trees.specs.Tree.{same_tree, size}
-use Rattle.cv_derive_rules.specs.Given.{with_given}
+use Rattle.cv_scene.specs.lines.Given.{with_given}
 use Rattle.cv_directory_sorts.specs.Sites.{bound_sort, first_site}
 use Rattle.cv_scope_rules.specs.typing.Signature.{names_in}
 use Rattle.cv_meaning.specs.contexts.Groups.{Right, side_group}

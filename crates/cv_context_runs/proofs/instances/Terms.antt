@@ -15,7 +15,7 @@ use Rattle.cv_scope_rules.specs.typing.Signature.{Signature, sort_of}
 use Rattle.cv_scope_rules.specs.Phrases.{Term, is_phrase}
 use Rattle.cv_scene.specs.Sights.{variable_of}
 use Rattle.cv_scene.specs.Terms.{is_sort, signature_in}
-use Rattle.cv_derive_rules.specs.Given.{or_node, term_for, with_given}
+use Rattle.cv_scene.specs.lines.Given.{or_node, term_for, with_given}
 use Rattle.cv_scene.specs.Instances.{Instance, Matching, are_of_types, call_at, call_by, filled, first_call, guess, instance_of, is_argument_of, is_coin_of, is_instance, is_read_of, is_variable_of, names_of}
 use Rattle.cv_scene.specs.LeftTerms.{HasLeftTerms, IsLeftFunction}
 use Rattle.cv_scene.specs.Apt.{has_value}

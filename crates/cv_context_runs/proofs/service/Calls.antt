@@ -23,7 +23,7 @@ use Rattle.cv_scope_runs.specs.Reads.{LeafAssigned, TermAssigned, TermsAssigned}
 use Rattle.cv_scope_runs.proofs.Contexts.{Matches, constant_none, put_here, put_other, variable_none}
 use Rattle.cv_scope_runs.proofs.TermsLater.{some_of}
 use Rattle.cv_scene.specs.Sights.{variable_of}
-use Rattle.cv_derive_rules.specs.Given.{or_node, term_for, with_given}
+use Rattle.cv_scene.specs.lines.Given.{or_node, term_for, with_given}
 use Rattle.cv_scene.specs.Instances.{Instance, filled, names_of, terms_of}
 use Rattle.cv_scene.specs.Refusals.{uses}
 use Rattle.cv_scene.specs.Sites.{Site}

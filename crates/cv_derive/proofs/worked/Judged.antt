@@ -17,11 +17,11 @@ use Rattle.cv_scope_rules.specs.Above.{standing_at}
 use Rattle.cv_scene.specs.Late.{is_defined_in, is_late}
 use Rattle.cv_scene.specs.Terms.{is_there}
 use Rattle.cv_scene.specs.Derivations.{first_bad, first_bad_line}
-use Rattle.cv_derive_rules.specs.Ends.{ends_with}
-use Rattle.cv_derive_rules.specs.Given.{with_given}
-use Rattle.cv_derive_rules.specs.Lines.{lines_of, statements}
-use Rattle.cv_derive_rules.specs.Lines as lines
-use Rattle.cv_derive_rules.specs.Truths.{no, yes}
+use Rattle.cv_scene.specs.lines.Ends.{ends_with}
+use Rattle.cv_scene.specs.lines.Given.{with_given}
+use Rattle.cv_scene.specs.lines.Lines.{lines_of, statements}
+use Rattle.cv_scene.specs.lines.Lines as lines
+use Rattle.cv_scene.specs.lines.Truths.{no, yes}
 use Rattle.cv_derive.specs.worked.Worked.{a, a_there, and, au, cases, distinct, ends, eq, g, h, late, late_cases, late_pair, late_sight, line, no_ends, not_p, number, one, p, pair_cases, pair_sight, refutes, sight, split, two, two_cells, two_lines, u, x, x_there, xu}
 use Rattle.cv_derive.specs.worked.Worked as worked
 

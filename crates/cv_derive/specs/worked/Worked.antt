@@ -11,7 +11,7 @@ use Rattle.cv_syntax_trees.specs.Tree.{Tree, Empty, Node, binders, chain, lone, 
 use Rattle.cv_scene.specs.Pairs.{pair_at}
 use Rattle.cv_scene.specs.Scenes.{Scene}
 use Rattle.cv_scene.specs.Sights.{Sight, sight_at}
-use Rattle.cv_derive_rules.specs.Truths.{no, yes}
+use Rattle.cv_scene.specs.lines.Truths.{no, yes}
 
 abbrev pub eq : Tree → Tree → Tree
 eq m n = Node Eq m n

@@ -18,7 +18,7 @@ use Rattle.cv_scope_runs.specs.Promises.{AreIndicesOf}
 use Rattle.cv_scope_runs.proofs.Contexts.{index_none}
 use Rattle.cv_typing_runs.proofs.Games.{typed}
 use Rattle.cv_derive_facts.specs.Definitions.{IsBehind}
-use Rattle.cv_derive_rules.specs.Lines.{lines_of, statements}
+use Rattle.cv_scene.specs.lines.Lines.{lines_of, statements}
 use Rattle.cv_scene.specs.Derivations.{Derives}
 use Rattle.cv_scene.specs.Late.{index_term}
 use Rattle.cv_scene.specs.Pairs.{all_of_second, pair_at, second_index, second_indices}

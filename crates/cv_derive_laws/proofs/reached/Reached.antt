@@ -41,8 +41,8 @@ use Rattle.cv_scope_rules.specs.Above.{stands_at}
 use Rattle.cv_scene.specs.Derivations.{first_bad_line}
 use Rattle.cv_scene.specs.Scenes.{Scene}
 use Rattle.cv_scene.specs.Terms.{replications_at, replications_by}
-use Rattle.cv_derive_rules.specs.Lines.{lines_of, statements}
-use Rattle.cv_derive_rules.specs.Given.{term_for, or_node, with_given}
+use Rattle.cv_scene.specs.lines.Lines.{lines_of, statements}
+use Rattle.cv_scene.specs.lines.Given.{term_for, or_node, with_given}
 use Rattle.cv_scene.specs.Sights.{Pair, Sight, at_site, cells_by, facts_by, only_site, sight_at, variable_of}
 use Rattle.cv_derive_laws.specs.stores.Reached.{BranchSitesStand, CandidateSitesStand, CellsBetween, HasTypes, PlaceCellsBetween, SiteCellsBetween, SitesStandNow}
 use Rattle.cv_scene.specs.Late.{is_late}

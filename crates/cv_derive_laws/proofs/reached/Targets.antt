@@ -13,13 +13,13 @@ use Rattle.cv_meaning.specs.Serving.{Visit}
 use Rattle.cv_meaning.specs.Terms.{value}
 use Rattle.cv_scene.specs.Scenes.{Scene}
 use Rattle.cv_scene.specs.Derivations.{Derives}
-use Rattle.cv_derive_rules.specs.Ends.{is_end, same_statement, same_statements}
-use Rattle.cv_derive_rules.specs.Lines.{Statement, Holds, IsDefined, lines_of, statements}
+use Rattle.cv_scene.specs.lines.Ends.{is_end, same_statement, same_statements}
+use Rattle.cv_scene.specs.lines.Lines.{Statement, Holds, IsDefined, lines_of, statements}
 use Rattle.cv_scene.specs.Sights.{sight_at}
 use Rattle.cv_derive_laws.specs.stores.Truth.{IsTrue}
 use Rattle.cv_derive_laws.specs.stores.Holding.{HoldAt, HoldAtCandidates, HoldAtFind, HoldAtVisit, HoldInBodies}
 use Rattle.cv_derive_laws.specs.stores.Unreached.{DerivesFalse, FindHasNone, HasNoCandidate, HasNoneAt, IsElsewhere}
-use Rattle.cv_derive_rules.specs.Targets.{falsity}
+use Rattle.cv_scene.specs.lines.Targets.{falsity}
 
 module _ (P : Statement → Type 0) where
   dropped : (k : ℕ) (ts : List Statement) → AllByRecursion P ts → AllByRecursion P (drop k ts)

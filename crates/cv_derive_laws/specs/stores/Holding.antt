@@ -16,7 +16,7 @@ use Rattle.cv_typing_runs.specs.Games.{HasArguments, HasDeclaredSorts, HasKnownN
 use Rattle.cv_derive_facts.specs.Promises.{IsOwnTerm}
 use Rattle.cv_scene.specs.Scenes.{Scene}
 use Rattle.cv_scene.specs.Derivations.{first_bad_line}
-use Rattle.cv_derive_rules.specs.Lines.{lines_of, statements}
+use Rattle.cv_scene.specs.lines.Lines.{lines_of, statements}
 use Rattle.cv_scene.specs.Sights.{sight_at}
 use Rattle.cv_derive_laws.specs.stores.Truth.{HasClosedEquations, IsTrue}
 

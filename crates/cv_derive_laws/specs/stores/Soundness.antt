@@ -15,7 +15,7 @@ use Rattle.cv_meaning_laws.specs.adequacy.Counted.{tapes_of}
 use Rattle.cv_scene.specs.Scenes.{Scene}
 use Rattle.cv_scene.specs.Derivations.{Derives}
 use Rattle.cv_scene.specs.Sights.{sight_at}
-use Rattle.cv_derive_rules.specs.Lines.{lines_of, statements}
+use Rattle.cv_scene.specs.lines.Lines.{lines_of, statements}
 use Rattle.cv_derive_laws.specs.stores.Truth.{IsTrue}
 use Rattle.cv_derive_laws.specs.stores.Holding.{HoldAt, HoldAtConditions, HoldAtVisit, IsReady}
 use Rattle.cv_derive_laws.specs.stores.Unreached.{DerivesFalse, HasNoneAt, IsElsewhere}

@@ -12,7 +12,7 @@ use Rattle.cv_meaning_laws.specs.adequacy.Typed.{HasSort, Sort, size_of}
 use Rattle.cv_typing_runs.specs.Games.{context_of}
 use Rattle.cv_scope_runs.specs.Promises.{AreIndicesOf}
 use Rattle.cv_scene.specs.Late.{is_late}
-use Rattle.cv_derive_rules.specs.Lines.{Statement, Holds, IsDefined}
+use Rattle.cv_scene.specs.lines.Lines.{Statement, Holds, IsDefined}
 use Rattle.cv_scene.specs.Sights.{Pair, Sight, is_cell_under, site_cells, site_facts}
 
 -- a term is 1 in the second store; a cell is assigned in the first one, where its indices have their values in the second

@@ -11,7 +11,7 @@ use Rattle.cv_meaning.specs.Serving.{Visit}
 use Rattle.cv_scene.specs.Scenes.{Scene}
 use Rattle.cv_scene.specs.Derivations.{Derives}
 use Rattle.cv_scene.specs.Sights.{sight_at}
-use Rattle.cv_derive_rules.specs.Targets.{falsity}
+use Rattle.cv_scene.specs.lines.Targets.{falsity}
 
 abbrev pub DerivesFalse : Scene → ℕ → Tree → Type 0
 DerivesFalse s q by = Derives (sight_at s q) by falsity

@@ -5,7 +5,7 @@ use Rattle.cv_pool.specs.KindTree.{KindTree}
 use Rattle.cv_syntax.specs.declared.open.Opened.{Opened}
 use Rattle.cv_syntax_trees.specs.Tree.{Tree, Empty, Node}
 use Rattle.cv_syntax.specs.PoolTrees.{tree_at}
-use Rattle.cv_derive_rules.specs.Lines.{Lines, lines_of}
+use Rattle.cv_scene.specs.lines.Lines.{Lines, lines_of}
 use Rattle.cv_derive_lines.specs.declared.lines.Line.{Line}
 use Rattle.cv_derive_lines.specs.Views.{front, in_front}
 use Rattle.cv_derive_lines.proofs.Fronts.{line_at, no_lines}

@@ -5,8 +5,8 @@ use Rattle.cv_pool.specs.KindTree.{KindTree}
 use Rattle.cv_syntax_trees.specs.Tree.{Tree, Empty}
 use Rattle.cv_syntax.specs.PoolTrees.{tree_at}
 use Rattle.cv_syntax.proofs.Trees.{tree_at_None}
-use Rattle.cv_derive_rules.specs.Inferences.{Visible}
-use Rattle.cv_derive_rules.specs.Lines.{Statement}
+use Rattle.cv_scene.specs.lines.Inferences.{Visible}
+use Rattle.cv_scene.specs.lines.Lines.{Statement}
 use Rattle.cv_derive_lines.specs.declared.lines.Claim.{Claim}
 use Rattle.cv_derive_lines.specs.Views.{statement_of}
 

@@ -7,7 +7,7 @@ use Rattle.cv_pool.specs.Nodes.{ChildBelow}
 use Rattle.cv_syntax.specs.declared.open.Opened.{Opened}
 use Rattle.cv_syntax_trees.specs.Tree.{Tree, Node}
 use Rattle.cv_syntax.specs.PoolTrees.{tree_at}
-use Rattle.cv_derive_rules.specs.Lines.{Lines, By, Cases, Statement, Holds, count, lines_of}
+use Rattle.cv_scene.specs.lines.Lines.{Lines, By, Cases, Statement, Holds, count, lines_of}
 use Rattle.cv_derive_lines.specs.declared.lines.Claim.{Claim}
 use Rattle.cv_derive_lines.specs.declared.lines.Line.{Line}
 use Rattle.cv_derive_lines.specs.Views.{IsClaimBelow, front, in_front, statement_of}

@@ -11,7 +11,7 @@ use Rattle.cv_scope_rules.specs.Context.{items}
 use Rattle.cv_scope_rules.specs.Rules.{is_index}
 use Rattle.cv_scene.specs.Reasons.{are_congruent_by, arguments, is_congruent}
 use Rattle.cv_scene.specs.Sights.{Sight}
-use Rattle.cv_derive_rules.specs.Inferences.{Visible}
+use Rattle.cv_scene.specs.lines.Inferences.{Visible}
 use Rattle.cv_derive_reasons.specs.inferences.Sides.{sides_of}
 use Rattle.cv_derive_reasons.proofs.inferences.Forms.{tested}
 use Rattle.cv_derive_lines.proofs.terms.Listing.{no_more}

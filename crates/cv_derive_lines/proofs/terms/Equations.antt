@@ -17,7 +17,7 @@ use Rattle.cv_syntax_trees.specs.Tree.{Tree, Empty, Node, bound_names, first, se
 use Rattle.cv_syntax.specs.PoolTrees.{tree_at}
 use Rattle.cv_directory_sorts.specs.declared.sort.Sort.TheVariants.{OfType}
 use Rattle.cv_directory.specs.Live.{IsLive}
-use Rattle.cv_derive_rules.specs.Given.{with_given}
+use Rattle.cv_scene.specs.lines.Given.{with_given}
 use Rattle.cv_scene.specs.Reasons.{are_of_types, equations_in, is_instance}
 use Rattle.cv_scene.specs.Sights.{Sight, from_one, is_term_of}
 

@@ -6,7 +6,7 @@ use Rattle.cv_syntax_trees.specs.declared.head.Head.TheVariants.{Eq}
 use Rattle.cv_syntax_trees.specs.Children.{is_empty}
 use Rattle.cv_syntax_trees.specs.Tree.{Tree, Empty, Node, same_tree}
 use Rattle.cv_scope_rules.specs.Context.{items}
-use Rattle.cv_derive_rules.specs.Inferences.{Visible, are_equal_by, cited_term}
+use Rattle.cv_scene.specs.lines.Inferences.{Visible, are_equal_by, cited_term}
 
 module _ (v : Visible) where
   abbrev equal : Tree → Tree → Tree → Bool

@@ -4,8 +4,8 @@ use Rattle.cv_pool.specs.declared.node.NodeId.{NodeId}
 use Rattle.cv_pool.specs.KindTree.{KindTree}
 use Rattle.cv_pool.specs.Nodes.{ChildBelow}
 use Rattle.cv_syntax.specs.PoolTrees.{tree_at}
-use Rattle.cv_derive_rules.specs.Inferences.{Visible}
-use Rattle.cv_derive_rules.specs.Lines.{Lines, count, lines_of}
+use Rattle.cv_scene.specs.lines.Inferences.{Visible}
+use Rattle.cv_scene.specs.lines.Lines.{Lines, count, lines_of}
 use Rattle.cv_derive_lines.specs.declared.lines.Claim.{Claim}
 use Rattle.cv_derive_lines.specs.Views.{IsClaimBelow, statement_of}
 use Rattle.cv_derive_lines.specs.declared.citing.bookmarks.Bookmark.{Bookmark}

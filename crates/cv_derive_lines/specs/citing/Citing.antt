@@ -3,7 +3,7 @@ use Rattle.std.specs.Prelude.{ℕ, ◌+◌, ◌≤◌, ◌==◌, IfSome, nat_lt,
 use Rattle.cv_pool.specs.KindTree.{KindTree}
 use Rattle.cv_pool.specs.Nodes.{ChildBelow}
 use Rattle.cv_syntax.specs.PoolTrees.{tree_at}
-use Rattle.cv_derive_rules.specs.Lines.{Lines, End, By, Cases, Statement, Holds, count, lines_of}
+use Rattle.cv_scene.specs.lines.Lines.{Lines, End, By, Cases, Statement, Holds, count, lines_of}
 use Rattle.cv_derive_lines.specs.Views.{IsClaimBelow, statement_of}
 use Rattle.cv_derive_lines.specs.declared.citing.citing.Search.{Search}
 use Rattle.cv_derive_lines.specs.declared.citing.citing.Search.TheVariants as search_

@@ -1,6 +1,6 @@
 ghost use Rattle.std.specs.Prelude.{◌≡◌, ◌≤◌, ℕ, IfSome, List};
 ghost use Rattle.cv_pool.specs.KindTree.{KindTree};
-ghost use Rattle.cv_derive_rules.specs.Lines.{Lines};
+ghost use Rattle.cv_scene.specs.lines.Lines.{Lines};
 ghost use Rattle.cv_derive_lines.specs.citing.Bookmarks.{AreLines, IsKept, IsLine};
 
 use crate::Claim;

@@ -2,10 +2,10 @@ ghost use Rattle.std.specs.Prelude.{◌≡◌, ◌+◌, ◌<◌, ◌≤◌, ◌^
 ghost use Rattle.cv_pool.specs.KindTree.{KindTree};
 ghost use Rattle.cv_pool.specs.Nodes.{ChildBelow};
 ghost use Rattle.cv_syntax.specs.PoolTrees.{tree_at};
-ghost use Rattle.cv_derive_rules.specs.Inferences as inferences;
-ghost use Rattle.cv_derive_rules.specs.Inferences.{cell_in, term_in};
-ghost use Rattle.cv_derive_rules.specs.Lines as derivations;
-ghost use Rattle.cv_derive_rules.specs.Lines.{lines_of};
+ghost use Rattle.cv_scene.specs.lines.Inferences as inferences;
+ghost use Rattle.cv_scene.specs.lines.Inferences.{cell_in, term_in};
+ghost use Rattle.cv_scene.specs.lines.Lines as derivations;
+ghost use Rattle.cv_scene.specs.lines.Lines.{lines_of};
 ghost use Rattle.cv_derive_lines.specs.Views.{AreBelow, IsClaimBelow, in_front, statement_of};
 ghost use Rattle.cv_derive_lines.specs.citing.Bookmarks.{CanCite, visible_to};
 ghost use Rattle.cv_derive_lines.specs.citing.Citing.{IsEndBelow, IsNextBelow, IsWithin, cited_from, found};
@@ -31,7 +31,7 @@ enum Search {
 }
 
 /// One step to the line of number l, where that of number n cites it.
-#[tactic(auto, unfolding(crate::specs::citing::Citing::cited_from, cv_derive_rules::specs::Lines::count))]
+#[tactic(auto, unfolding(crate::specs::citing::Citing::cited_from, cv_scene::specs::lines::Lines::count))]
 fn step(pool: &Pool, line: Line, rest: Option<NodeId>, start: u32, n: u32, l: u32) -> Search
     requires live { AreBelow (length pool.now.trees) line }
     requires fits { start + derivations.count (in_front pool.now.trees line

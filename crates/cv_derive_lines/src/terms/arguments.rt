@@ -4,7 +4,7 @@ ghost use Rattle.cv_syntax_trees.specs.declared.head.Head.TheVariants.{Eq};
 ghost use Rattle.cv_syntax_trees.specs.Tree.{Node, same_tree};
 ghost use Rattle.cv_syntax.specs.PoolTrees.{tree_at};
 ghost use Rattle.cv_scope_rules.specs.Context.{items};
-ghost use Rattle.cv_derive_rules.specs.Inferences as inferences;
+ghost use Rattle.cv_scene.specs.lines.Inferences as inferences;
 ghost use Rattle.cv_derive_lines.specs.citing.Bookmarks.{CanCite, visible_to};
 
 use crate::citing::{Citing, cited_term};

@@ -2,7 +2,7 @@ ghost use Rattle.std.specs.Prelude.{◌≡◌, ◌<◌, All, length};
 ghost use Rattle.cv_pool.specs.Nodes.{ChildBelow};
 ghost use Rattle.cv_syntax.specs.PoolTrees.{tree_at};
 ghost use Rattle.cv_directory.specs.Live.{IsLive};
-ghost use Rattle.cv_derive_rules.specs.Inferences.{number_of};
+ghost use Rattle.cv_scene.specs.lines.Inferences.{number_of};
 ghost use Rattle.cv_scene.specs.Reasons as reasons;
 ghost use Rattle.cv_scene.specs.Reasons.{equations_in};
 ghost use Rattle.cv_scene.specs.Sights.{Sight, from_one};

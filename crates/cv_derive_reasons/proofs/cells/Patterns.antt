@@ -5,7 +5,7 @@ use Rattle.cv_syntax_trees.specs.declared.head.Head.TheVariants.{Cons, Leaf, Rea
 use Rattle.cv_syntax_trees.specs.Children.{is_empty}
 use Rattle.cv_syntax_trees.specs.Tree.{Tree, Empty, Node, lone, same_tree}
 use Rattle.cv_syntax.proofs.Trees.{same_open, tree_of_NoTree}
-use Rattle.cv_derive_rules.specs.Given.{with_given}
+use Rattle.cv_scene.specs.lines.Given.{with_given}
 use Rattle.cv_scope_rules.specs.Context.{index_terms}
 use Rattle.cv_derive_reasons.specs.inferences.Sides.{sides_of}
 use Rattle.cv_derive_reasons.specs.substitution.Under.{under}

@@ -7,8 +7,8 @@ use Rattle.cv_syntax_trees.specs.Children.{is_empty}
 use Rattle.cv_syntax_trees.specs.Head.{same_head}
 use Rattle.cv_syntax_trees.specs.Tree.{Tree, Empty, Node, same_tree}
 use Rattle.cv_syntax.proofs.Trees.{same_open, tree_of_NoTree}
-use Rattle.cv_derive_rules.specs.Inferences.{is_both, is_left, is_refuted, is_reflexive, is_replaced_by, is_right_side, is_symmetric, is_transitive}
-use Rattle.cv_derive_rules.specs.Truths.{no}
+use Rattle.cv_scene.specs.lines.Inferences.{is_both, is_left, is_refuted, is_reflexive, is_replaced_by, is_right_side, is_symmetric, is_transitive}
+use Rattle.cv_scene.specs.lines.Truths.{no}
 use Rattle.cv_derive_reasons.specs.inferences.Sides.{sides_of}
 
 abbrev Pair : Type 0

@@ -18,7 +18,7 @@ use Rattle.cv_typing.proofs.Bridges.{declaration_same}
 use Rattle.cv_scope_rules.specs.Context.{items}
 use Rattle.cv_scene.specs.Reasons.{is_data_by, is_injective}
 use Rattle.cv_scene.specs.Sights.{Sight}
-use Rattle.cv_derive_rules.specs.Inferences.{equations_of}
+use Rattle.cv_scene.specs.lines.Inferences.{equations_of}
 use Rattle.cv_derive_reasons.specs.inferences.Sides.{sides_of}
 use Rattle.cv_derive_reasons.proofs.inferences.Forms.{empty_form, over_form, tested}
 use Rattle.cv_derive_reasons.specs.injectivity.Values.{are_values_by}

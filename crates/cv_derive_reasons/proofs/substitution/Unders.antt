@@ -6,7 +6,7 @@ use Rattle.cv_syntax_trees.specs.declared.head.Head.TheVariants.{Binder}
 use Rattle.cv_syntax_trees.specs.Tree.{Tree, Empty, Node, bound_names}
 use Rattle.cv_syntax.proofs.ChildReads.{bound_names_Binder, bound_names_other}
 use Rattle.cv_syntax.proofs.Trees.{same_open, tree_of_NoTree}
-use Rattle.cv_derive_rules.specs.Given.{term_for, given_for, or_node, with_given}
+use Rattle.cv_scene.specs.lines.Given.{term_for, given_for, or_node, with_given}
 
 pub under_empty : (is : List ℕ) (terms : Tree) → with_given is terms Empty ≡ Empty
 unfolding with_given

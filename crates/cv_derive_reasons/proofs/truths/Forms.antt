@@ -4,7 +4,7 @@ use Rattle.std.specs.Prelude.{◌||◌}
 use Rattle.cv_syntax_trees.specs.declared.head.Head.TheVariants.{Eq, And, Or, Not}
 use Rattle.cv_syntax_trees.specs.Tree.{Tree, Empty, Node, same_tree}
 use Rattle.cv_syntax.proofs.Trees.{tree_of_NoTree}
-use Rattle.cv_derive_rules.specs.Truths.{is_double, is_truth_of_and, is_truth_of_equality, is_truth_of_equation, is_truth_of_not, is_truth_of_or, is_truth_of_sides, yes}
+use Rattle.cv_scene.specs.lines.Truths.{is_double, is_truth_of_and, is_truth_of_equality, is_truth_of_equation, is_truth_of_not, is_truth_of_or, is_truth_of_sides, yes}
 use Rattle.cv_derive_reasons.specs.inferences.Sides.{sides_of}
 use Rattle.cv_derive_reasons.proofs.inferences.Forms.{over_form, tested}
 

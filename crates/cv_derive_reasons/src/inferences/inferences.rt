@@ -1,7 +1,7 @@
 ghost use Rattle.std.specs.Prelude.{◌≡◌, ◌<◌, length};
 ghost use Rattle.cv_pool.specs.Nodes.{ChildBelow};
 ghost use Rattle.cv_syntax.specs.PoolTrees.{tree_at};
-ghost use Rattle.cv_derive_rules.specs.Inferences as inferences;
+ghost use Rattle.cv_scene.specs.lines.Inferences as inferences;
 
 use crate::inferences::opening::{is_alone, sides};
 use cv_syntax::children::is_empty;

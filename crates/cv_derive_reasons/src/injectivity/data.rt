@@ -7,7 +7,7 @@ ghost use Rattle.cv_syntax_trees.specs.Tree.{same_tree};
 ghost use Rattle.cv_syntax.specs.PoolTrees.{tree_at};
 ghost use Rattle.cv_scope_rules.specs.typing.Signature.{declaration_of};
 ghost use Rattle.cv_scope_rules.specs.Context.{items};
-ghost use Rattle.cv_derive_rules.specs.Inferences.{equations_of};
+ghost use Rattle.cv_scene.specs.lines.Inferences.{equations_of};
 ghost use Rattle.cv_scene.specs.Reasons as reasons;
 ghost use Rattle.cv_scene.specs.Sights.{Sight};
 ghost use Rattle.cv_derive_reasons.specs.injectivity.Values.{are_values_by};

@@ -2,7 +2,7 @@ ghost use Rattle.std.specs.Prelude.{◌≡◌, ◌<◌, IfSome, length, option_m
 ghost use Rattle.cv_pool.specs.Nodes.{ChildBelow};
 ghost use Rattle.cv_syntax_trees.specs.Tree.{bound_names, same_tree};
 ghost use Rattle.cv_syntax.specs.PoolTrees.{tree_at};
-ghost use Rattle.cv_derive_rules.specs.Given as given;
+ghost use Rattle.cv_scene.specs.lines.Given as given;
 
 use crate::substitution::substitution::Put;
 use cv_syntax::{Head, NodeId, Pool, read_node, same};

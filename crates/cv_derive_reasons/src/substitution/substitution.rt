@@ -3,7 +3,7 @@ ghost use Rattle.cv_pool.specs.Nodes.{ChildBelow};
 ghost use Rattle.cv_syntax_trees.specs.declared.head.Head.TheVariants.{Leaf};
 ghost use Rattle.cv_syntax_trees.specs.Tree.{lone, same_tree};
 ghost use Rattle.cv_syntax.specs.PoolTrees.{tree_at};
-ghost use Rattle.cv_derive_rules.specs.Given as given;
+ghost use Rattle.cv_scene.specs.lines.Given as given;
 ghost use Rattle.cv_derive_reasons.specs.substitution.Under.{names_of, under};
 
 use crate::inferences::is_alone;

@@ -3,8 +3,8 @@ ghost use Rattle.cv_pool.specs.Nodes.{ChildBelow};
 ghost use Rattle.cv_syntax_trees.specs.Tree.{Node, lone, same_tree};
 ghost use Rattle.cv_syntax.specs.PoolTrees.{tree_at};
 ghost use Rattle.cv_syntax_trees.specs.declared.head.Head.TheVariants.{Eq, No, Yes};
-ghost use Rattle.cv_derive_rules.specs.Truths as truths;
-ghost use Rattle.cv_derive_rules.specs.Truths.{are_sides};
+ghost use Rattle.cv_scene.specs.lines.Truths as truths;
+ghost use Rattle.cv_scene.specs.lines.Truths.{are_sides};
 
 use crate::inferences::{is_alone, is_over, sides};
 use cv_syntax::{Head, NodeId, Pool, same};

@@ -4,7 +4,7 @@ use Rattle.std.specs.Prelude.{option_and_then, slice_get}
 use Rattle.cv_syntax_trees.specs.declared.head.Head.{Head}
 use Rattle.cv_syntax_trees.specs.Tree.{Tree, Empty, Node}
 use Rattle.cv_directory.specs.Definitions.{Definition}
-use Rattle.cv_derive_rules.specs.Given.{term_for}
+use Rattle.cv_scene.specs.lines.Given.{term_for}
 use Rattle.cv_derive_reasons.specs.cells.Only.{replications_by}
 
 abbrev index : ℕ × ℕ → ℕ

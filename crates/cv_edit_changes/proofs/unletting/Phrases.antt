@@ -6,7 +6,7 @@ use Rattle.cv_syntax_trees.specs.declared.head.Head.TheVariants.{Leaf, Read}
 use Rattle.cv_syntax_trees.specs.Tree.{Tree, Empty, Node}
 use Rattle.cv_meaning.specs.Still.{defines}
 use Rattle.cv_scope_rules.specs.Phrases.{Phrase, Inputs, Nil, OneCell, Term, Terms, is_phrase, parts}
-use Rattle.cv_derive_rules.specs.Given.{with_given}
+use Rattle.cv_scene.specs.lines.Given.{with_given}
 use Rattle.cv_scene.specs.Scenes.{head_reads}
 use Rattle.cv_steps.specs.Changes.{only, without}
 use Rattle.cv_steps.specs.Unletting.{Assignment, with_term, without_assignment}

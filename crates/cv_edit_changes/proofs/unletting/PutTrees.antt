@@ -9,7 +9,7 @@ use Rattle.cv_syntax.proofs.Trees.{size_Empty}
 use Rattle.cv_syntax.proofs.Walking.{depth_node, size_node}
 use Rattle.cv_path.proofs.extents.Extents.{depth_Empty}
 use Rattle.cv_meaning.specs.Still.{defines}
-use Rattle.cv_derive_rules.specs.Given.{with_given}
+use Rattle.cv_scene.specs.lines.Given.{with_given}
 use Rattle.cv_scene.specs.Scenes.{head_reads}
 use Rattle.cv_steps.specs.Changes.{only}
 use Rattle.cv_edit_changes.specs.unletting.Putting.{put_in}

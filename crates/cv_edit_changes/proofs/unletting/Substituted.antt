@@ -8,7 +8,7 @@ use Rattle.cv_syntax_trees.specs.Tree.{Tree, Empty, Node, size, depth}
 use Rattle.cv_syntax.proofs.Trees.{size_Empty}
 use Rattle.cv_syntax.proofs.Walking.{depth_node, size_node}
 use Rattle.cv_path.proofs.extents.Extents.{depth_Empty}
-use Rattle.cv_derive_rules.specs.Given.{given_for, or_node, term_for, with_given}
+use Rattle.cv_scene.specs.lines.Given.{given_for, or_node, term_for, with_given}
 
 -- what was found, and what it stands for
 

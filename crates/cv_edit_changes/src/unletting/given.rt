@@ -1,7 +1,7 @@
 ghost use Rattle.std.specs.Prelude.{◌≡◌, ◌<◌, IfSome, length, option_map};
 ghost use Rattle.cv_pool.specs.Nodes.{ChildBelow};
 ghost use Rattle.cv_syntax.specs.PoolTrees.{tree_at};
-ghost use Rattle.cv_derive_rules.specs.Given as given;
+ghost use Rattle.cv_scene.specs.lines.Given as given;
 ghost use Rattle.cv_edit_changes.specs.unletting.Assigned.{names_above};
 
 use cv_directory::Directory;

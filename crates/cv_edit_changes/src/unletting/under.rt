@@ -3,7 +3,7 @@ ghost use Rattle.cv_pool.specs.Nodes.{ChildBelow};
 ghost use Rattle.cv_syntax_trees.specs.Tree as tree;
 ghost use Rattle.cv_syntax.specs.PoolTrees.{tree_at};
 ghost use Rattle.cv_syntax.specs.Postorder.{postorder};
-ghost use Rattle.cv_derive_rules.specs.Given.{with_given};
+ghost use Rattle.cv_scene.specs.lines.Given.{with_given};
 ghost use Rattle.cv_edit_changes.specs.unletting.Assigned.{names_above};
 
 use crate::unletting::given::given_for;

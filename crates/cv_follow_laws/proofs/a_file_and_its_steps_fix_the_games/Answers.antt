@@ -1,4 +1,4 @@
-use Rattle.cv_accept_laws.proofs.kernel.sequences.OneSequence.{alike}
+use Rattle.cv_sequences.proofs.files.kernel.sequences.OneSequence.{alike}
 use Rattle.cv_follow_laws.proofs.Names.{stand_once}
 use Rattle.cv_follow_laws.proofs.a_file_and_its_steps_fix_the_games.Goals as goal
 

@@ -5,8 +5,8 @@ use Rattle.cv_syntax_trees.specs.declared.head.Head.{Head}
 use Rattle.cv_syntax_trees.specs.declared.head.Head.TheVariants.{Binder}
 use Rattle.cv_syntax_trees.specs.Tree.{Tree, Empty, Node}
 use Rattle.cv_meaning.specs.contexts.Made.{has_cell_at}
-use Rattle.cv_group.specs.rules.Rules.{Around, Found, are_cells, found, has_name, has_read}
-use Rattle.cv_group.specs.rules.Rules as rule
+use Rattle.cv_group_rules.specs.Rules.{Around, Found, are_cells, found, has_name, has_read}
+use Rattle.cv_group_rules.specs.Rules as rule
 use Rattle.cv_group.specs.declared.bodies.levels.Level.{Level}
 use Rattle.cv_group.specs.bodies.Levels.{HasBound, branch_passes, level_of}
 

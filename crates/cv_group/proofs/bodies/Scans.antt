@@ -3,8 +3,8 @@ use Rattle.std.proofs.Common.{◌≡◌, ℕ, zero, suc, ◌+◌, ◌<◌, ◌�
 use Rattle.std.proofs.Math.ListN.{get_or}
 use Rattle.cv_group.specs.declared.bodies.levels.Level.{Level}
 use Rattle.cv_group.specs.bodies.Levels.{level_of}
-use Rattle.cv_group.specs.rules.Rules as rule
-use Rattle.cv_group.specs.rules.Rules.{range_of, is_asked}
+use Rattle.cv_group_rules.specs.Rules as rule
+use Rattle.cv_group_rules.specs.Rules.{range_of, is_asked}
 use Rattle.cv_lists.proofs.Numbers.{suc_is_plus_one}
 
 range_more : (u : ℕ) (over : Option ℕ) (ls : List Level) (k : ℕ) (d : Level) → k < length ls → range_of u over (map level_of (drop k ls)) ≡ range_of u (rule.ranging u over (level_of (get_or ls k d))) (map level_of (drop (suc k) ls))

@@ -4,7 +4,7 @@ use Rattle.cv_syntax_trees.specs.declared.head.Head.{Head}
 use Rattle.cv_syntax_trees.specs.declared.head.Head.TheVariants.{Read, Leaf}
 use Rattle.cv_syntax_trees.specs.Tree.{Tree, Empty, Node}
 use Rattle.cv_meaning.specs.contexts.Made.{has_cell_at}
-use Rattle.cv_group.specs.rules.Rules.{Around, Level, are_cells, has_name, has_read, is_cell, is_name, is_read}
+use Rattle.cv_group_rules.specs.Rules.{Around, Level, are_cells, has_name, has_read, is_cell, is_name, is_read}
 use Rattle.cv_group.specs.bodies.Levels.{is_cell_at}
 
 -- lists of cells

@@ -6,7 +6,7 @@ use Rattle.cv_syntax_trees.specs.declared.head.Head.TheVariants.{Apply, Leaf, Re
 use Rattle.cv_syntax_trees.specs.Tree.{Tree, Empty, Node}
 use Rattle.cv_group.specs.declared.bodies.levels.Level as code
 use Rattle.cv_group.specs.bodies.Levels.{HasBound, level_of, node_passes, term_passes}
-use Rattle.cv_group.specs.rules.Rules.{Around, Level, behind, is_bound, names_bound}
+use Rattle.cv_group_rules.specs.Rules.{Around, Level, behind, is_bound, names_bound}
 
 names_parts : (o : Around) (ls : List Level) (h : Head) (a b : Tree) → names_bound o ls h a b ≡ (term_passes o ls h a && node_passes o ls h a b)
 names_parts o ls (Leaf x) a b = alone _

@@ -3,7 +3,7 @@ use Rattle.std.proofs.Common.{◌≡◌, Bool, true, false, ◌&&◌, [], ◌∷
 use Rattle.cv_syntax_trees.specs.declared.head.Head.{Head}
 use Rattle.cv_syntax_trees.specs.Tree.{Tree, Empty, Node, first}
 use Rattle.cv_meaning.specs.contexts.Groups.{bound_of}
-use Rattle.cv_group.specs.rules.Rules.{all_agree, bounds, each_function, functions_agree, has_one_index, have_one_index}
+use Rattle.cv_group_rules.specs.Rules.{all_agree, bounds, each_function, functions_agree, has_one_index, have_one_index}
 use Rattle.cv_syntax_trees.specs.Children.{is_empty}
 
 -- a conjunction whose first part is decided

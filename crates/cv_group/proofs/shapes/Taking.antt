@@ -5,7 +5,7 @@ use Rattle.std.specs.HashSet.{Updates, UpdatesBy}
 use Rattle.std.proofs.Math.Path.{fun_ext}
 use Rattle.std.proofs.lemmas.Bool.{both_ways, eqb-true}
 use Rattle.cv_syntax.specs.NameSets.{NameSet, is_in, is_one_of, is_outside}
-use Rattle.cv_group.specs.rules.Rules.{are_distinct, are_read}
+use Rattle.cv_group_rules.specs.Rules.{are_distinct, are_read}
 use Rattle.cv_group.specs.shapes.Shapes.{are_taken, without, without_all}
 use Rattle.cv_lists.proofs.Tests.{equals_comm}
 

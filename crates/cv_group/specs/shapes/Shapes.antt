@@ -1,7 +1,7 @@
 -- Shapes of sides, and names that are taken out of a set.
 use Rattle.std.specs.Prelude.{ℕ, Bool, false, true, ◌&&◌, ◌==◌, if◌then◌else◌, List, [], ◌∷◌}
 use Rattle.cv_syntax_trees.specs.Tree.{Tree, second}
-use Rattle.cv_group.specs.rules.Rules as rule
+use Rattle.cv_group_rules.specs.Rules as rule
 
 -- the shapes of two sides
 abbrev pub sides_agree : Tree → Tree → Bool

@@ -2,7 +2,7 @@ ghost use Rattle.std.specs.Prelude.{◌≡◌, true, [], length, map, IfOk};
 ghost use Rattle.cv_pool.specs.Nodes.{ChildBelow};
 ghost use Rattle.cv_syntax.specs.PoolTrees.{tree_at};
 ghost use Rattle.cv_group.specs.bodies.Levels.{HasBound, around_of, branch_passes, level_of, node_passes, term_passes};
-ghost use Rattle.cv_group.specs.rules.Rules as rule;
+ghost use Rattle.cv_group_rules.specs.Rules as rule;
 
 use crate::bodies::around::Around;
 use crate::bodies::cells::{are_cells, found, has_cell_at};

@@ -4,7 +4,7 @@ ghost use Rattle.cv_syntax.specs.NameSets.{is_in};
 ghost use Rattle.cv_syntax.specs.PoolTrees.{tree_at};
 ghost use Rattle.cv_meaning.specs.contexts.Made as made;
 ghost use Rattle.cv_group.specs.bodies.Levels.{around_of, is_cell_at, is_paired, level_of};
-ghost use Rattle.cv_group.specs.rules.Rules as rule;
+ghost use Rattle.cv_group_rules.specs.Rules as rule;
 
 use crate::bodies::around::Around;
 use crate::bodies::levels::{Level, index_in, range_of};

@@ -3,7 +3,7 @@ ghost use Rattle.std.specs.List.{list_any};
 ghost use Rattle.cv_pool.specs.Nodes.{ChildBelow};
 ghost use Rattle.cv_syntax.specs.PoolTrees.{tree_at};
 ghost use Rattle.cv_group.specs.bodies.Levels.{around_of, level_of};
-ghost use Rattle.cv_group.specs.rules.Rules as rule;
+ghost use Rattle.cv_group_rules.specs.Rules as rule;
 
 use crate::bodies::around::Around;
 use cv_syntax::{Head, NodeId, Pool, read_node};

@@ -4,8 +4,8 @@ ghost use Rattle.cv_syntax_trees.specs.Tree.{second};
 ghost use Rattle.cv_syntax.specs.PoolTrees.{tree_at};
 ghost use Rattle.cv_meaning.specs.contexts.Groups.{bound_of};
 ghost use Rattle.cv_group.specs.shapes.Shapes.{sides_agree};
-ghost use Rattle.cv_group.specs.rules.Rules as rule;
-ghost use Rattle.cv_group.specs.rules.Rules.{bounds, each_function};
+ghost use Rattle.cv_group_rules.specs.Rules as rule;
+ghost use Rattle.cv_group_rules.specs.Rules.{bounds, each_function};
 
 use cv_syntax::children::{first_of, is_empty, second_of};
 use cv_syntax::{Head, NodeId, Pool, read_node, same};

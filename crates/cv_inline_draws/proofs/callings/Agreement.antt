@@ -2,7 +2,7 @@
 use Rattle.std.proofs.Common.{◌≡◌, true, false, refl}
 use Rattle.std.proofs.lemmas.Bool.{and_parts, both_ways}
 use Rattle.cv_syntax_trees.specs.Tree.{Tree, Empty, Node, second}
-use Rattle.cv_group.specs.rules.Rules.{all_agree, functions_agree, groups_agree, same_bound, shapes_agree}
+use Rattle.cv_group_rules.specs.Rules.{all_agree, functions_agree, groups_agree, same_bound, shapes_agree}
 use Rattle.cv_inline_draws.specs.callings.RightFunctions.{AreNodes, HasRightFunctions}
 
 agreeing : (s t : Tree) → all_agree s t ≡ true → AreNodes t

@@ -1,6 +1,6 @@
 ghost use Rattle.std.specs.Prelude.{◌≡◌, ℕ, Bool, true};
 ghost use Rattle.cv_syntax_trees.specs.Tree.{Tree};
-ghost use Rattle.cv_group.specs.rules.Rules.{shapes_agree};
+ghost use Rattle.cv_group_rules.specs.Rules.{shapes_agree};
 ghost use Rattle.cv_meaning.specs.contexts.KeyTerms.{AreFineKeyTerms};
 ghost use Rattle.cv_inline_sites.specs.branches.Moves.{IsList};
 ghost use Rattle.cv_inline_draws.specs.callings.RightFunctions.{HasRightFunctions};

@@ -7,7 +7,7 @@ use Rattle.cv_syntax_trees.specs.declared.head.Head.TheVariants.{Leaf, Read, App
 use Rattle.cv_syntax_trees.specs.Tree.{Tree, Empty, Node, first, first_place, second_place}
 use Rattle.cv_meaning.specs.contexts.Bodies.{body_place}
 use Rattle.cv_meaning.specs.contexts.Made.{has_cell_at}
-use Rattle.cv_group.specs.rules.Rules.{Around, Defined, Found, Level, are_cells, defines, has_name, has_read, index_in, is_asked_at, is_bound, is_readable, range_of}
+use Rattle.cv_group_rules.specs.Rules.{Around, Defined, Found, Level, are_cells, defines, has_name, has_read, index_in, is_asked_at, is_bound, is_readable, range_of}
 use Rattle.cv_inline.specs.bodies.Accepted.{AreFineBranches, AreFineCells, AreFineTerms, IsFineArray, IsFineBody, IsFineTerm, IsNeverAssigned, scope_for}
 use Rattle.cv_meaning.specs.contexts.Inlined.{Caller, CallOf, Own, Scope, call_in, index_reads, index_terms}
 use Rattle.cv_inline.specs.bodies.Inlining.{Inlining}

@@ -6,9 +6,9 @@ use Rattle.cv_syntax.specs.NameSets.{is_one_of}
 use Rattle.cv_syntax_trees.specs.Tree.{Tree, Empty, Node, bound_names, first, second}
 use Rattle.cv_meaning.specs.Correspondences.{typed_names}
 use Rattle.cv_meaning.specs.contexts.Groups.{Function, Right, bound_of, function_at, function_of, functions_of, key_of, side_group}
-use Rattle.cv_group.specs.rules.Symbols.{Symbols}
-use Rattle.cv_group.specs.rules.Faults.{BoundNames, IsAccepted}
-use Rattle.cv_group.specs.rules.Rules.{Around, around, binds_name, defines, each_function, functions_in, is_asked, is_bound, is_readable, key_in, names_of, range_of, side_is_bound, takes}
+use Rattle.cv_group_rules.specs.Symbols.{Symbols}
+use Rattle.cv_group_rules.specs.Faults.{BoundNames, IsAccepted}
+use Rattle.cv_group_rules.specs.Rules.{Around, around, binds_name, defines, each_function, functions_in, is_asked, is_bound, is_readable, key_in, names_of, range_of, side_is_bound, takes}
 use Rattle.cv_inline.specs.bodies.Accepted.{IsFineBody, IsFineCall}
 use Rattle.cv_meaning.specs.contexts.Inlined.{Caller, Own, Scope, Standing, TheKey, standing_of}
 use Rattle.cv_inline.specs.bodies.Inlining.{Inlining}

@@ -4,7 +4,7 @@ use Rattle.std.proofs.lemmas.Bool.{and_parts, both_ways, or_right}
 use Rattle.std.specs.List.{list_any}
 use Rattle.cv_syntax_trees.specs.declared.head.Head.TheVariants.{Cons, Leaf, Read}
 use Rattle.cv_syntax_trees.specs.Tree.{Tree, Empty, Node, first}
-use Rattle.cv_group.specs.rules.Rules.{Around, Defined, Found, Level, are_cells, asking, gives, has_name, has_read, index_in, is_asked, is_index, is_named_at, is_named_by, is_readable, range_of, ranging}
+use Rattle.cv_group_rules.specs.Rules.{Around, Defined, Found, Level, are_cells, asking, gives, has_name, has_read, index_in, is_asked, is_index, is_named_at, is_named_by, is_readable, range_of, ranging}
 use Rattle.cv_inline.specs.bodies.Accepted.{AreFineCells, IsFineArray, IsNeverAssigned, is_assigned_above, is_own_variable}
 use Rattle.cv_meaning.specs.contexts.Inlined.{CallOf, Own, Scope, call_in, called, standing_of}
 use Rattle.cv_inline.specs.bodies.Inlining.{Inlining}

@@ -5,7 +5,7 @@ use Rattle.std.specs.List.{AllByRecursion}
 use Rattle.cv_syntax_trees.specs.declared.head.Head.{Head}
 use Rattle.cv_syntax_trees.specs.declared.head.Head.TheVariants.{New, Let, If, Find, Branch, Cons, Binder}
 use Rattle.cv_syntax_trees.specs.Tree.{Tree, Empty, Node, first_place, second_place}
-use Rattle.cv_group.specs.rules.Rules.{defines, defines_here}
+use Rattle.cv_group_rules.specs.Rules.{defines, defines_here}
 use Rattle.cv_meaning.specs.contexts.Inlined.{Caller}
 use Rattle.cv_inline.specs.Draws.{finds_in}
 use Rattle.cv_inline_laws.specs.draws.DrawnNames.{AreBranchesDrawn, AreIndicesDrawn, DrawnNames, IsBodyDrawn, has_find, has_indices, has_name}

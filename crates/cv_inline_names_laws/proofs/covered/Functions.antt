@@ -8,9 +8,9 @@ use Rattle.cv_syntax_trees.specs.Tree.{Tree, Empty, Node, bound_names, first, se
 use Rattle.cv_meaning.specs.Correspondences.{typed_names}
 use Rattle.cv_meaning_laws.proofs.Listed.{Has}
 use Rattle.cv_meaning.specs.contexts.Groups.{Function, Group, Right, bound_of, function_at, function_of, functions_of, side_group}
-use Rattle.cv_group.specs.rules.Symbols.{Symbols}
-use Rattle.cv_group.specs.rules.Faults.{IsAccepted, SameShape}
-use Rattle.cv_group.specs.rules.Rules.{are_distinct, binds_name, bounds, defines, functions_in, groups_agree, names_of, takes}
+use Rattle.cv_group_rules.specs.Symbols.{Symbols}
+use Rattle.cv_group_rules.specs.Faults.{IsAccepted, SameShape}
+use Rattle.cv_group_rules.specs.Rules.{are_distinct, binds_name, bounds, defines, functions_in, groups_agree, names_of, takes}
 use Rattle.cv_meaning.specs.contexts.Inlined.{Caller}
 use Rattle.cv_inline.specs.bodies.Inlining.{Inlining}
 use Rattle.cv_meaning.specs.contexts.Roles.{Role}

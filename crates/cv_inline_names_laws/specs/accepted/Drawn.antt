@@ -3,7 +3,7 @@ use Rattle.std.specs.Prelude.{◌≡◌, ℕ, suc, Bool, true, false, ◌==◌, 
 use Rattle.std.specs.List.{AllByRecursion}
 use Rattle.cv_syntax_trees.specs.declared.head.Head.TheVariants.{Branch, Cons, Binder, Find}
 use Rattle.cv_syntax_trees.specs.Tree.{Tree, Empty, Node, first_place, second_place}
-use Rattle.cv_group.specs.rules.Rules.{names_of}
+use Rattle.cv_group_rules.specs.Rules.{names_of}
 use Rattle.cv_meaning.specs.contexts.Groups.{Function}
 use Rattle.cv_meaning.specs.contexts.Inlined.{Caller}
 use Rattle.cv_inline.specs.bodies.Inlining.{Inlining}

@@ -11,9 +11,9 @@ use Rattle.cv_meaning.specs.Correspondences.{typed_names}
 use Rattle.cv_meaning.specs.Interpretation.{is_constant_of}
 use Rattle.cv_meaning.specs.contexts.Groups.{Group, Left, function_of, functions_of, key_of, side_group}
 use Rattle.cv_scope_rules.specs.Phrases.{Nil, Term, Terms, is_phrase}
-use Rattle.cv_group.specs.rules.Symbols.{symbols_of}
-use Rattle.cv_group.specs.rules.Faults.{BoundNames, IsAccepted, LeftIsTerm, ReadNames}
-use Rattle.cv_group.specs.rules.Rules.{Around, are_read, around, each_function, functions_in, index_in, is_asked, is_asked_at, is_bound, is_one_binder, is_term, key_in, reads, side_is_bound, taken_names}
+use Rattle.cv_group_rules.specs.Symbols.{symbols_of}
+use Rattle.cv_group_rules.specs.Faults.{BoundNames, IsAccepted, LeftIsTerm, ReadNames}
+use Rattle.cv_group_rules.specs.Rules.{Around, are_read, around, each_function, functions_in, index_in, is_asked, is_asked_at, is_bound, is_one_binder, is_term, key_in, reads, side_is_bound, taken_names}
 use Rattle.cv_scene.specs.Instances.{names_of}
 use Rattle.cv_scene.specs.Refusals.{uses}
 use Rattle.cv_scene.specs.LeftTerms.{HasLeftTerms, IsLeftFunction, is_name_or_constant, reads_no_array}

@@ -10,7 +10,7 @@ use Rattle.cv_syntax.specs.NameSets.{is_one_of}
 use Rattle.cv_syntax_trees.specs.Tree.{Tree, Empty, Node, bound_names, first, second}
 use Rattle.cv_meaning.specs.Correspondences.{typed_names}
 use Rattle.cv_meaning.specs.contexts.Groups.{function_of, key_of}
-use Rattle.cv_group.specs.rules.Rules.{are_read, is_one_binder, reads, taken_names}
+use Rattle.cv_group_rules.specs.Rules.{are_read, is_one_binder, reads, taken_names}
 use Rattle.cv_scene.specs.Refusals.{uses}
 use Rattle.cv_lists.proofs.Tests.{differ_comm, or_cases}
 

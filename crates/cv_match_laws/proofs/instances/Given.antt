@@ -9,7 +9,7 @@ use Rattle.cv_syntax_trees.specs.Declarations.{Declaration}
 use Rattle.cv_syntax_trees.specs.Tree.{Tree, Empty, Node, chain}
 use Rattle.cv_meaning.specs.contexts.Groups.{Function, Group}
 use Rattle.cv_scene.specs.Sights.{variable_of}
-use Rattle.cv_derive_rules.specs.Given.{term_for}
+use Rattle.cv_scene.specs.lines.Given.{term_for}
 use Rattle.cv_scene.specs.Instances.{Instance, Matching, are_of_types, is_argument_of, is_coin_of, is_read_of, names_of, terms_of}
 use Rattle.cv_scene.specs.Refusals.{uses}
 use Rattle.cv_scene.specs.LeftTerms.{IsLeftFunction}

@@ -8,7 +8,7 @@ use Rattle.cv_scope_rules.specs.Context.{first_position, replications_below, sec
 use Rattle.cv_scope_rules.specs.Phrases.{Nil, Term, Terms, is_phrase}
 use Rattle.cv_scope_rules.specs.declared.position.Position.{Position}
 use Rattle.cv_scene.specs.Scenes.{head_reads}
-use Rattle.cv_derive_rules.specs.Given.{or_node, term_for, with_given}
+use Rattle.cv_scene.specs.lines.Given.{or_node, term_for, with_given}
 use Rattle.cv_scene.specs.Instances.{Call, Matching, call_at}
 use Rattle.cv_scene.specs.Refusals.{uses}
 use Rattle.cv_scene.specs.Sites.{Site, is_guard, sites_in}

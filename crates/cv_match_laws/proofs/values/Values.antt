@@ -10,7 +10,7 @@ use Rattle.cv_meaning.specs.Terms.{bit, is_one, leaf_value_from, or_zero, value,
 use Rattle.cv_meaning.specs.contexts.Frames.{Frame, IsValue, Meaning, meaning_of}
 use Rattle.cv_meaning.specs.contexts.BodyTerms.{are_equal, body_value, body_values, call_at, call_meant, plain_value}
 use Rattle.cv_scope_rules.specs.Phrases.{Term, Terms, is_phrase}
-use Rattle.cv_derive_rules.specs.Given.{or_node, term_for, with_given}
+use Rattle.cv_scene.specs.lines.Given.{or_node, term_for, with_given}
 use Rattle.cv_scene.specs.LeftTerms.{reads_no_array}
 use Rattle.cv_scene.specs.Standing.{HasNoConstant}
 

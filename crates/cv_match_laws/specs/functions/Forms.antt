@@ -4,7 +4,7 @@ use Rattle.std.specs.Prelude.{◌≡◌, Bool, true, not, ◌||◌}
 use Rattle.cv_syntax_trees.specs.Tree.{Tree, second}
 use Rattle.cv_meaning.specs.contexts.Groups.{Left}
 use Rattle.cv_scope_rules.specs.Phrases.{Term, is_phrase}
-use Rattle.cv_group.specs.rules.Rules.{each_function, functions_in, is_one_binder, is_term, key_in}
+use Rattle.cv_group_rules.specs.Rules.{each_function, functions_in, is_one_binder, is_term, key_in}
 
 abbrev pub is_whole : Tree → Bool
 is_whole body = not (is_term body) || is_phrase Term body

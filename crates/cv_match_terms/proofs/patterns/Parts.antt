@@ -10,8 +10,8 @@ use Rattle.cv_syntax_trees.specs.Head.{same_head}
 use Rattle.cv_syntax_trees.specs.Tree.{Tree, Empty, Node, chain, same_tree}
 use Rattle.cv_syntax.proofs.Trees.{tree_of_NoTree}
 use Rattle.cv_meaning.specs.contexts.Groups.{Function, Group}
-use Rattle.cv_derive_rules.specs.Given as given
-use Rattle.cv_derive_rules.specs.Given.{or_node, with_given}
+use Rattle.cv_scene.specs.lines.Given as given
+use Rattle.cv_scene.specs.lines.Given.{or_node, with_given}
 use Rattle.cv_meaning.specs.Correspondences.{typed_names}
 use Rattle.cv_scene.specs.Scenes.{or_empty}
 use Rattle.cv_scene.specs.Instances.{Instance, are_of_types, guess, names_of, standing_for, term_for, terms_of}

@@ -14,7 +14,7 @@ use Rattle.cv_scope_rules.specs.typing.Parts.{game_part, nothing_above, signatur
 use Rattle.cv_scope_rules.specs.typing.Signature.{OfGame, Signature, sort_of}
 use Rattle.cv_typing.specs.Tables.{above_of, arrays_of}
 use Rattle.cv_meaning.specs.contexts.Groups.{Function, Group, group_of}
-use Rattle.cv_derive_rules.specs.Given.{with_given}
+use Rattle.cv_scene.specs.lines.Given.{with_given}
 use Rattle.cv_scene.specs.Sights.{variable_of}
 use Rattle.cv_scene.specs.Instances.{filled, guess, is_variable_of, names_of, term_for, terms_of}
 use Rattle.cv_scene.specs.Refusals.{is_among}

@@ -1,17 +1,17 @@
 -- The test of a broken correspondence and its sentence.
-use Rattle.std.proofs.Common.{◌≡◌, ℕ, zero, suc, ◌+◌, ◌≢◌, Bool, true, false, cond, ◌||◌, ◌&&◌, not, ◌==◌, List, [], ◌∷◌, ◌++◌, map, zip, ◌⊎◌, inl, inr, Some, refl, sym, ap, ap₂, subst, ◌∙◌, arith, eqb-true, eq-eqb, append_assoc, append-nil}
-use Rattle.std.proofs.lemmas.Bool.{both_ways, and_parts, and_from, ne_eqb, or_right}
-use Rattle.std.specs.List.{list_any}
+use Rattle.std.proofs.Common.{◌≡◌, ℕ, zero, suc, ◌+◌, Bool, true, false, cond, ◌||◌, ◌&&◌, not, ◌==◌, List, [], ◌∷◌, ◌++◌, map, zip, ◌⊎◌, inl, inr, Some, refl, sym, ap, subst, ◌∙◌, arith, eqb-true, eq-eqb, append_assoc, append-nil}
+use Rattle.std.proofs.lemmas.Bool.{both_ways, and_parts, and_from, or_right}
+use Rattle.std.specs.List.{list_any, list_all}
 use Rattle.cv_syntax_trees.specs.Tree.{Tree}
 use Rattle.cv_meaning.specs.Interpretation.{Setting}
 use Rattle.cv_meaning.specs.Memory.{Happened, Indices, nowhere}
 use Rattle.cv_meaning.specs.Terms.{value, values, is_one}
 use Rattle.cv_meaning.specs.Candidates.{below}
-use Rattle.cv_meaning.specs.Correspondences.{Correspondence, Atom, RightEvent, RightTerm, is_event, holds, assignments, left_values, is_left, is_met, is_used, positions, ways}
+use Rattle.cv_meaning.specs.Correspondences.{Correspondence, Atom, RightEvent, RightTerm, is_event, holds, assignments, left_values, is_left, can_hold, is_met, is_used, positions, ways}
 use Rattle.cv_meaning_laws.proofs.Counts.{same_tuple_refl, same_tuple_exact}
-use Rattle.cv_meaning_laws.proofs.Listed.{Has, has_left, has_right, has_flat_map}
-use Rattle.cv_meaning_laws.specs.adequacy.Broken.{StandsAt, AreValues, query_values, right_event, Holds, HoldsWith, IsMet, HasUnmet}
-use Rattle.cv_meaning_laws.proofs.adequacy.Lists.{any_has, has_any, has_append, flat_map_has, stands_has, has_stands, contains_has, has_contains, all_stands, stands_all, below_has, has_below}
+use Rattle.cv_meaning_laws.proofs.Listed.{Has, has_left, has_right, has_map, has_flat_map}
+use Rattle.cv_meaning_laws.specs.adequacy.Broken.{StandsAt, AreValues, query_values, right_event, Holds, HoldsWith, IsMarkedAt, IsMet, HasUnmet}
+use Rattle.cv_meaning_laws.proofs.adequacy.Lists.{any_has, has_any, has_append, flat_map_has, map_has, stands_has, has_stands, contains_has, has_contains, all_stands, stands_all, below_has, has_below}
 use Rattle.cv_lists.proofs.Tests.{or_cases}
 
 -- right events
@@ -62,20 +62,25 @@ values_assigned g (x ∷ xs) ρ (v ∷ vs) h =
 pub met_means : (g : Setting) (q : Correspondence) (es : List Happened) (e : Happened) → is_met g q es e ≡ true → IsMet g q es e
 unfolding names
 met_means g q es e h =
-    let r = any_has _ (assignments g q.others (left_values q e)) h in
+    let o = any_has (can_hold g q es e) q.alternatives h in
+    let r = any_has (λ ρ. list_all (λ (c : ℕ × Atom). holds g es ρ c.1) o.0) (assignments g q.others (left_values q e)) o.2 in
     let s = assigned_values g q.others (left_values q e) r.0 r.1 in
     record {
+      alternative = o.0;
+      is_alternative = has_contains q.alternatives o.0 o.1;
       others = s.0;
       are_values = s.1;
-      hold = λ n a k. subst (λ ρ. Holds g es ρ a) s.2 (holds_means g es r.0 a (all_stands (holds g es r.0) q.atoms r.2 n a k));
+      hold = λ k n a x. subst (λ ρ. Holds g es ρ a) s.2 (holds_means g es r.0 a (all_stands (λ (c : ℕ × Atom). holds g es r.0 c.1) o.0 r.2 k (n, a) x));
     }
 
 pub means_met : (g : Setting) (q : Correspondence) (es : List Happened) (e : Happened) → IsMet g q es e → is_met g q es e ≡ true
 unfolding names
 means_met g q es e h =
-    has_any _ (assignments g q.others (left_values q e)) (query_values q e h.others)
+    has_any (can_hold g q es e) q.alternatives h.alternative (contains_has q.alternatives h.alternative h.is_alternative)
+    (has_any (λ ρ. list_all (λ (c : ℕ × Atom). holds g es ρ c.1) h.alternative) (assignments g q.others (left_values q e)) (query_values q e h.others)
     (values_assigned g q.others (left_values q e) h.others h.are_values)
-    (stands_all (holds g es (query_values q e h.others)) q.atoms (λ n a k. means_holds g es (query_values q e h.others) a (h.hold n a k)))
+    (stands_all (λ (c : ℕ × Atom). holds g es (query_values q e h.others) c.1) h.alternative
+    (λ k c x. means_holds g es (query_values q e h.others) c.1 (h.hold k c.0 c.1 x))))
 
 unfoldable pub unmet : Setting → Correspondence → List Happened → Happened → Bool
 unmet g q es e = is_left q e && not (is_met g q es e)
@@ -127,148 +132,179 @@ abbrev pub Used : Type 0
 Used = List (ℕ × ℕ)
 
 -- what is used after a left event whose atoms have these positions
-unfoldable pub used_with : List Atom → ℕ → (ℕ → ℕ) → Used → Used
-used_with [] n at used = used
-used_with (RightEvent true f ms ∷ atoms) n at used = used_with atoms (suc n) (λ k. at (suc k)) ((n, at 0) ∷ used)
-used_with (a ∷ atoms) n at used = used_with atoms (suc n) (λ k. at (suc k)) used
+unfoldable pub used_with : List (ℕ × Atom) → (ℕ → ℕ) → Used → Used
+used_with [] at used = used
+used_with ((n, RightEvent true f ms) ∷ atoms) at used = (n, at 0) ∷ used_with atoms (λ k. at (suc k)) used
+used_with (c ∷ atoms) at used = used_with atoms (λ k. at (suc k)) used
 
-abbrev pub AtomsHold : Setting → List Happened → Indices → List Atom → (ℕ → ℕ) → Type 0
-AtomsHold g es ρ atoms at = (k : ℕ) (a : Atom) → StandsAt atoms k a → HoldsWith g es ρ (at k) a
+abbrev pub AtomsHold : Setting → List Happened → Indices → List (ℕ × Atom) → (ℕ → ℕ) → Type 0
+AtomsHold g es ρ atoms at = (k n : ℕ) (a : Atom) → StandsAt atoms k (n, a) → HoldsWith g es ρ (at k) a
 
 -- no marked atom has a position that was used
-abbrev pub Fresh : List Atom → ℕ → (ℕ → ℕ) → Used → Type 0
-Fresh atoms n at used = (k m f : ℕ) (ms : Tree) → m ≡ n + k → StandsAt atoms k (RightEvent true f ms) → is_used used m (at k) ≡ false
+abbrev pub Fresh : List (ℕ × Atom) → (ℕ → ℕ) → Used → Type 0
+Fresh atoms at used = (k n : ℕ) → IsMarkedAt atoms k n → is_used used n (at k) ≡ false
 
 abbrev with_first : ℕ → (ℕ → ℕ) → ℕ → ℕ
 with_first p at zero = p
 with_first p at (suc k) = at k
 
-pub used_kept : (atoms : List Atom) (n : ℕ) (at : ℕ → ℕ) (used : Used) (m p : ℕ) → is_used used m p ≡ true → is_used (used_with atoms n at used) m p ≡ true
+first_stands : (c : ℕ × Atom) (atoms : List (ℕ × Atom)) (d : ℕ × Atom) → StandsAt (c ∷ atoms) zero d → (c.0 ≡ d.0) × (c.1 ≡ d.1)
+first_stands c atoms d s = let same : c ≡ d = cc in (ap (λ (z : ℕ × Atom). z.0) same, ap (λ (z : ℕ × Atom). z.1) same)
+
+-- a mark in a list and behind another first atom
+
+marked_later : (c : ℕ × Atom) (atoms : List (ℕ × Atom)) (k n : ℕ) → IsMarkedAt atoms k n → IsMarkedAt (c ∷ atoms) (suc k) n
+marked_later c atoms k n m = record { event = m.event; arguments = m.arguments; stands = m.stands }
+
+marked_behind : (c : ℕ × Atom) (atoms : List (ℕ × Atom)) (k n : ℕ) → IsMarkedAt (c ∷ atoms) (suc k) n → IsMarkedAt atoms k n
+marked_behind c atoms k n m = record { event = m.event; arguments = m.arguments; stands = m.stands }
+
+pub used_kept : (atoms : List (ℕ × Atom)) (at : ℕ → ℕ) (used : Used) (m p : ℕ) → is_used used m p ≡ true → is_used (used_with atoms at used) m p ≡ true
 unfolding used_with
-used_kept [] n at used m p h = h
-used_kept (RightEvent true f ms ∷ atoms) n at used m p h = used_kept atoms (suc n) _ _ m p (or_right ((n == m) && (at 0 == p)) _ h)
-used_kept (RightEvent false f ms ∷ atoms) n at used m p h = used_kept atoms (suc n) _ used m p h
-used_kept (RightTerm t ∷ atoms) n at used m p h = used_kept atoms (suc n) _ used m p h
+used_kept [] at used m p h = h
+used_kept ((n, RightEvent true f ms) ∷ atoms) at used m p h = or_right ((n == m) && (at 0 == p)) _ (used_kept atoms (λ k. at (suc k)) used m p h)
+used_kept ((n, RightEvent false f ms) ∷ atoms) at used m p h = used_kept atoms (λ k. at (suc k)) used m p h
+used_kept ((n, RightTerm t) ∷ atoms) at used m p h = used_kept atoms (λ k. at (suc k)) used m p h
 
 used_here : (n m p r : ℕ) (used : Used) → n ≡ m → p ≡ r → is_used ((n, p) ∷ used) m r ≡ true
 used_here n m p r used a b = ap (λ x. x || is_used used m r) (and_from (n == m) (p == r) (eq-eqb n m a) (eq-eqb p r b))
 
-pub used_new : (atoms : List Atom) (n : ℕ) (at : ℕ → ℕ) (used : Used) (k m f : ℕ) (ms : Tree) → StandsAt atoms k (RightEvent true f ms) → m ≡ n + k → is_used (used_with atoms n at used) m (at k) ≡ true
+pub used_new : (atoms : List (ℕ × Atom)) (at : ℕ → ℕ) (used : Used) (k m : ℕ) → IsMarkedAt atoms k m → is_used (used_with atoms at used) m (at k) ≡ true
 unfolding used_with
-used_new [] n at used k m f ms h e = cc
-used_new (RightEvent true f' ms' ∷ atoms) n at used zero m f ms h e = used_kept atoms (suc n) _ _ m (at 0) (used_here n m (at 0) (at 0) used (omega arith) refl)
-used_new (RightEvent true f' ms' ∷ atoms) n at used (suc k) m f ms h e = used_new atoms (suc n) _ _ k m f ms h (omega arith)
-used_new (RightEvent false f' ms' ∷ atoms) n at used (suc k) m f ms h e = used_new atoms (suc n) _ used k m f ms h (omega arith)
-used_new (RightEvent false f' ms' ∷ atoms) n at used zero m f ms h e = cc
-used_new (RightTerm t ∷ atoms) n at used (suc k) m f ms h e = used_new atoms (suc n) _ used k m f ms h (omega arith)
-used_new (RightTerm t ∷ atoms) n at used zero m f ms h e = cc
-
-later : (n : ℕ) (at : ℕ → ℕ) (used : Used) (m p : ℕ) → (is_used used m p ≡ true) ⊎ ((k : ℕ) × (m ≡ suc n + k) × (p ≡ at (suc k))) → (is_used used m p ≡ true) ⊎ ((k : ℕ) × (m ≡ n + k) × (p ≡ at k))
-later n at used m p (inl x) = inl x
-later n at used m p (inr x) = let e : m ≡ suc n + x.0 = x.1 in inr (suc x.0, omega arith, x.2)
-
-unmarked : (n : ℕ) (at : ℕ → ℕ) (used : Used) (m p : ℕ) → (is_used ((n, at 0) ∷ used) m p ≡ true) ⊎ ((k : ℕ) × (m ≡ suc n + k) × (p ≡ at (suc k))) → (is_used used m p ≡ true) ⊎ ((k : ℕ) × (m ≡ n + k) × (p ≡ at k))
-unmarked n at used m p (inl x) = go (or_cases ((n == m) && (at 0 == p)) _ x)
+used_new [] at used k m h = none (h.stands)
   where
-    go : ((n == m) && (at 0 == p) ≡ true) ⊎ (is_used used m p ≡ true) → (is_used used m p ≡ true) ⊎ ((k : ℕ) × (m ≡ n + k) × (p ≡ at k))
-    go (inl y) = let r = and_parts (n == m) _ y in let s : n ≡ m = eqb-true n m r.0 in inr (zero, omega arith, sym (eqb-true (at 0) p r.1))
-    go (inr y) = inl y
-unmarked n at used m p (inr x) = let e : m ≡ suc n + x.0 = x.1 in inr (suc x.0, omega arith, x.2)
+    none : {x : ℕ × Atom} → StandsAt [] k x → is_used used m (at k) ≡ true
+    none s = cc
+used_new ((n, RightEvent true f ms) ∷ atoms) at used zero m h =
+    used_here n m (at 0) (at 0) (used_with atoms (λ k. at (suc k)) used) (same h.event h.arguments h.stands) refl
+  where
+    same : (e : ℕ) (a : Tree) → StandsAt ((n, RightEvent true f ms) ∷ atoms) zero (m, RightEvent true e a) → n ≡ m
+    same e a s = (first_stands (n, RightEvent true f ms) atoms (m, RightEvent true e a) s).0
+used_new ((n, RightEvent true f ms) ∷ atoms) at used (suc k) m h =
+    or_right ((n == m) && (at 0 == at (suc k))) _ (used_new atoms (λ k. at (suc k)) used k m (marked_behind (n, RightEvent true f ms) atoms k m h))
+used_new ((n, RightEvent false f ms) ∷ atoms) at used (suc k) m h = used_new atoms (λ k. at (suc k)) used k m (marked_behind (n, RightEvent false f ms) atoms k m h)
+used_new ((n, RightEvent false f ms) ∷ atoms) at used zero m h = absurd (clash h.event h.arguments h.stands)
+  where
+    clash : (e : ℕ) (a : Tree) → StandsAt ((n, RightEvent false f ms) ∷ atoms) zero (m, RightEvent true e a) → ⊥
+    clash e a s = let other : RightEvent false f ms ≡ RightEvent true e a = (first_stands (n, RightEvent false f ms) atoms (m, RightEvent true e a) s).1 in cc
+used_new ((n, RightTerm t) ∷ atoms) at used (suc k) m h = used_new atoms (λ k. at (suc k)) used k m (marked_behind (n, RightTerm t) atoms k m h)
+used_new ((n, RightTerm t) ∷ atoms) at used zero m h = absurd (clash h.event h.arguments h.stands)
+  where
+    clash : (e : ℕ) (a : Tree) → StandsAt ((n, RightTerm t) ∷ atoms) zero (m, RightEvent true e a) → ⊥
+    clash e a s = let other : RightTerm t ≡ RightEvent true e a = (first_stands (n, RightTerm t) atoms (m, RightEvent true e a) s).1 in cc
 
-pub used_only : (atoms : List Atom) (n : ℕ) (at : ℕ → ℕ) (used : Used) (m p : ℕ) → is_used (used_with atoms n at used) m p ≡ true → (is_used used m p ≡ true) ⊎ ((k : ℕ) × (m ≡ n + k) × (p ≡ at k))
+-- what is used afterwards was used before, or by an atom of the list
+abbrev pub IsUsedBy : List (ℕ × Atom) → (ℕ → ℕ) → Used → (number position : ℕ) → Type 0
+IsUsedBy atoms at used m p = (is_used used m p ≡ true) ⊎ ((k : ℕ) × IsMarkedAt atoms k m × (p ≡ at k))
+
+later : (c : ℕ × Atom) (atoms : List (ℕ × Atom)) (at : ℕ → ℕ) (used : Used) (m p : ℕ) → IsUsedBy atoms (λ k. at (suc k)) used m p → IsUsedBy (c ∷ atoms) at used m p
+later c atoms at used m p (inl x) = inl x
+later c atoms at used m p (inr x) = inr (suc x.0, marked_later c atoms x.0 m x.1, x.2)
+
+pub used_only : (atoms : List (ℕ × Atom)) (at : ℕ → ℕ) (used : Used) (m p : ℕ) → is_used (used_with atoms at used) m p ≡ true → IsUsedBy atoms at used m p
 unfolding used_with
-used_only [] n at used m p h = inl h
-used_only (RightEvent true f ms ∷ atoms) n at used m p h = unmarked n at used m p (used_only atoms (suc n) _ _ m p h)
-used_only (RightEvent false f ms ∷ atoms) n at used m p h = later n at used m p (used_only atoms (suc n) _ used m p h)
-used_only (RightTerm t ∷ atoms) n at used m p h = later n at used m p (used_only atoms (suc n) _ used m p h)
+used_only [] at used m p h = inl h
+used_only ((n, RightEvent true f ms) ∷ atoms) at used m p h = go (or_cases ((n == m) && (at 0 == p)) _ h) (used_only atoms (λ k. at (suc k)) used m p)
+  where
+    go : ((n == m) && (at 0 == p) ≡ true) ⊎ (is_used (used_with atoms (λ k. at (suc k)) used) m p ≡ true)
+        → (is_used (used_with atoms (λ k. at (suc k)) used) m p ≡ true → IsUsedBy atoms (λ k. at (suc k)) used m p) → IsUsedBy ((n, RightEvent true f ms) ∷ atoms) at used m p
+    go (inl y) ih =
+        let r = and_parts (n == m) _ y in
+        let same : n ≡ m = eqb-true n m r.0 in
+        inr (zero, record { event = f; arguments = ms; stands = ap (λ j. Some (j, RightEvent true f ms)) same }, sym (eqb-true (at 0) p r.1))
+    go (inr y) ih = later (n, RightEvent true f ms) atoms at used m p (ih y)
+used_only ((n, RightEvent false f ms) ∷ atoms) at used m p h = later (n, RightEvent false f ms) atoms at used m p (used_only atoms (λ k. at (suc k)) used m p h)
+used_only ((n, RightTerm t) ∷ atoms) at used m p h = later (n, RightTerm t) atoms at used m p (used_only atoms (λ k. at (suc k)) used m p h)
 
 -- a way is a choice of positions
 
-pub record Way (g : Setting) (es : List Happened) (ρ : Indices) (n : ℕ) (atoms : List Atom) (used after : Used) : Type 0 where
+pub record Way (g : Setting) (es : List Happened) (ρ : Indices) (atoms : List (ℕ × Atom)) (used after : Used) : Type 0 where
   pub at : ℕ → ℕ
   pub hold : AtomsHold g es ρ atoms at
-  pub fresh : Fresh atoms n at used
-  pub after_is : after ≡ used_with atoms n at used
+  pub fresh : Fresh atoms at used
+  pub after_is : after ≡ used_with atoms at used
 
-cons_hold : (g : Setting) (es : List Happened) (ρ : Indices) (a : Atom) (atoms : List Atom) (p : ℕ) (at : ℕ → ℕ) → HoldsWith g es ρ p a → AtomsHold g es ρ atoms at → AtomsHold g es ρ (a ∷ atoms) (with_first p at)
-cons_hold g es ρ a atoms p at h hs zero b s = let e : a ≡ b = cc in subst (HoldsWith g es ρ p) e h
-cons_hold g es ρ a atoms p at h hs (suc k) b s = hs k b s
+cons_hold : (g : Setting) (es : List Happened) (ρ : Indices) (n : ℕ) (a : Atom) (atoms : List (ℕ × Atom)) (p : ℕ) (at : ℕ → ℕ) → HoldsWith g es ρ p a → AtomsHold g es ρ atoms at → AtomsHold g es ρ ((n, a) ∷ atoms) (with_first p at)
+cons_hold g es ρ n a atoms p at h hs zero m b s = subst (HoldsWith g es ρ p) (first_stands (n, a) atoms (m, b) s).1 h
+cons_hold g es ρ n a atoms p at h hs (suc k) m b s = hs k m b s
 
--- an atom that is not marked
-unmarked_fresh : (a : Atom) (atoms : List Atom) (n p : ℕ) (at : ℕ → ℕ) (used : Used) → ((f : ℕ) (ms : Tree) → a ≢ RightEvent true f ms) → Fresh atoms (suc n) at used → Fresh (a ∷ atoms) n (with_first p at) used
-unmarked_fresh a atoms n p at used ne h zero m f ms e s = let q : a ≡ RightEvent true f ms = cc in absurd (ne f ms q)
-unmarked_fresh a atoms n p at used ne h (suc k) m f ms e s = h k m f ms (omega arith) s
-
-or_none : (a b : Bool) → (a || b) ≡ false → b ≡ false
-or_none true b e = absurd (both_ways _ e refl)
-or_none false b e = e
-
-marked_fresh : (f' : ℕ) (ms' : Tree) (atoms : List Atom) (n p : ℕ) (at : ℕ → ℕ) (used : Used) → is_used used n p ≡ false → Fresh atoms (suc n) at ((n, p) ∷ used) → Fresh (RightEvent true f' ms' ∷ atoms) n (with_first p at) used
-marked_fresh f' ms' atoms n p at used u h zero m f ms e s = let q : n ≡ m = omega arith in subst (λ z. is_used used z p ≡ false) q u
-marked_fresh f' ms' atoms n p at used u h (suc k) m f ms e s = or_none ((n == m) && (p == at k)) _ (h k m f ms (omega arith) s)
-
-pub ways_sound : (g : Setting) (es : List Happened) (ρ : Indices) (n : ℕ) (atoms : List Atom) (used after : Used) → Has (ways g es ρ n atoms used) after → Way g es ρ n atoms used after
-unfolding ways used_with
-ways_sound g es ρ n [] used after (inl h) = record { at = λ k. 0; hold = λ k a s. cc; fresh = λ k m f ms e s. cc; after_is = h }
-ways_sound g es ρ n [] used after (inr h) = absurd h
-ways_sound g es ρ n (RightTerm t ∷ atoms) used after h = go (is_one (value g ρ nowhere t)) refl h (ways_sound g es ρ (suc n) atoms used after)
+cons_fresh : (n : ℕ) (a : Atom) (atoms : List (ℕ × Atom)) (p : ℕ) (at : ℕ → ℕ) (used : Used) → ((f : ℕ) (ms : Tree) → a ≡ RightEvent true f ms → is_used used n p ≡ false) → Fresh atoms at used → Fresh ((n, a) ∷ atoms) (with_first p at) used
+cons_fresh n a atoms p at used h hs zero m s = here s.event s.arguments s.stands
   where
-    go : (b : Bool) → is_one (value g ρ nowhere t) ≡ b → Has (cond b (ways g es ρ (suc n) atoms used) []) after → (Has (ways g es ρ (suc n) atoms used) after → Way g es ρ (suc n) atoms used after) → Way g es ρ n (RightTerm t ∷ atoms) used after
+    here : (f : ℕ) (ms : Tree) → StandsAt ((n, a) ∷ atoms) zero (m, RightEvent true f ms) → is_used used m p ≡ false
+    here f ms x = let same = first_stands (n, a) atoms (m, RightEvent true f ms) x in subst (λ j. is_used used j p ≡ false) same.0 (h f ms same.1)
+cons_fresh n a atoms p at used h hs (suc k) m s = hs k m (marked_behind (n, a) atoms k m s)
+
+pub ways_sound : (g : Setting) (es : List Happened) (ρ : Indices) (used : Used) (atoms : List (ℕ × Atom)) (after : Used) → Has (ways g es ρ used atoms) after → Way g es ρ atoms used after
+unfolding ways used_with
+ways_sound g es ρ used [] after (inl h) = record { at = λ k. 0; hold = λ k n a s. cc; fresh = none; after_is = h }
+  where
+    none : Fresh [] (λ k. 0) used
+    none k n m = empty m.stands
+      where
+        empty : {x : ℕ × Atom} → StandsAt [] k x → is_used used n 0 ≡ false
+        empty s = cc
+ways_sound g es ρ used [] after (inr h) = absurd h
+ways_sound g es ρ used ((n, RightTerm t) ∷ atoms) after h = go (is_one (value g ρ nowhere t)) refl h (ways_sound g es ρ used atoms after)
+  where
+    go : (b : Bool) → is_one (value g ρ nowhere t) ≡ b → Has (cond b (ways g es ρ used atoms) []) after → (Has (ways g es ρ used atoms) after → Way g es ρ atoms used after) → Way g es ρ ((n, RightTerm t) ∷ atoms) used after
     go true x k ih = let w = ih k in
         record {
           at = with_first 0 w.at;
-          hold = cons_hold g es ρ (RightTerm t) atoms 0 w.at (eqb-true (value g ρ nowhere t) 1 x) w.hold;
-          fresh = unmarked_fresh (RightTerm t) atoms n 0 w.at used (λ f ms e. cc) w.fresh;
+          hold = cons_hold g es ρ n (RightTerm t) atoms 0 w.at (eqb-true (value g ρ nowhere t) 1 x) w.hold;
+          fresh = cons_fresh n (RightTerm t) atoms 0 w.at used (λ f ms e. cc) w.fresh;
           after_is = w.after_is;
         }
     go false x k ih = absurd k
-ways_sound g es ρ n (RightEvent false f ms ∷ atoms) used after h =
-    let r = flat_map_has (λ p. ways g es ρ (suc n) atoms used) (positions (is_event g ρ f ms) 0 es) after h in
+ways_sound g es ρ used ((n, RightEvent false f ms) ∷ atoms) after h =
+    let r = flat_map_has (λ p. map (λ (u : Used). u) (ways g es ρ used atoms)) (positions (is_event g ρ f ms) 0 es) after h in
     let s = positions_stand (is_event g ρ f ms) 0 es r.0 r.1 in
-    let w = ways_sound g es ρ (suc n) atoms used after r.2 in
+    let u = map_has (λ (u : Used). u) (ways g es ρ used atoms) after r.2 in
+    let w = ways_sound g es ρ used atoms u.0 u.1 in
     record {
       at = with_first 0 w.at;
-      hold = cons_hold g es ρ (RightEvent false f ms) atoms 0 w.at (has_contains es _ (stands_has es s.0 _ (s.3 ∙ ap Some (event_exact g ρ f ms s.1 s.4)))) w.hold;
-      fresh = unmarked_fresh (RightEvent false f ms) atoms n 0 w.at used (λ f ms e. cc) w.fresh;
-      after_is = w.after_is;
+      hold = cons_hold g es ρ n (RightEvent false f ms) atoms 0 w.at (has_contains es _ (stands_has es s.0 _ (s.3 ∙ ap Some (event_exact g ρ f ms s.1 s.4)))) w.hold;
+      fresh = cons_fresh n (RightEvent false f ms) atoms 0 w.at used (λ f ms e. cc) w.fresh;
+      after_is = u.2 ∙ w.after_is;
     }
-ways_sound g es ρ n (RightEvent true f ms ∷ atoms) used after h =
-    let r = flat_map_has (λ p. cond (is_used used n p) [] (ways g es ρ (suc n) atoms ((n, p) ∷ used))) (positions (is_event g ρ f ms) 0 es) after h in
+ways_sound g es ρ used ((n, RightEvent true f ms) ∷ atoms) after h =
+    let r = flat_map_has (λ p. cond (is_used used n p) [] (map (λ (u : Used). (n, p) ∷ u) (ways g es ρ used atoms))) (positions (is_event g ρ f ms) 0 es) after h in
     let s = positions_stand (is_event g ρ f ms) 0 es r.0 r.1 in
-    go r.0 s.1 (let e : r.0 ≡ s.0 = omega (arith, s.2) in subst (λ z. StandsAt es z s.1) (sym e) s.3) s.4 (is_used used n r.0) refl r.2 (ways_sound g es ρ (suc n) atoms ((n, r.0) ∷ used) after)
+    go r.0 s.1 (let e : r.0 ≡ s.0 = omega (arith, s.2) in subst (λ z. StandsAt es z s.1) (sym e) s.3) s.4 (is_used used n r.0) refl r.2 (ways_sound g es ρ used atoms)
   where
-    go : (p : ℕ) (e : Happened) → StandsAt es p e → is_event g ρ f ms e ≡ true → (b : Bool) → is_used used n p ≡ b → Has (cond b [] (ways g es ρ (suc n) atoms ((n, p) ∷ used))) after
-        → (Has (ways g es ρ (suc n) atoms ((n, p) ∷ used)) after → Way g es ρ (suc n) atoms ((n, p) ∷ used) after) → Way g es ρ n (RightEvent true f ms ∷ atoms) used after
-    go p e s i true u k ih = absurd k
-    go p e s i false u k ih = let w = ih k in
+    go : (p : ℕ) (e : Happened) → StandsAt es p e → is_event g ρ f ms e ≡ true → (b : Bool) → is_used used n p ≡ b → Has (cond b [] (map (λ (u : Used). (n, p) ∷ u) (ways g es ρ used atoms))) after
+        → ((u : Used) → Has (ways g es ρ used atoms) u → Way g es ρ atoms used u) → Way g es ρ ((n, RightEvent true f ms) ∷ atoms) used after
+    go p e s i true x k ih = absurd k
+    go p e s i false x k ih =
+        let u = map_has (λ (u : Used). (n, p) ∷ u) (ways g es ρ used atoms) after k in
+        let w = ih u.0 u.1 in
         record {
           at = with_first p w.at;
-          hold = cons_hold g es ρ (RightEvent true f ms) atoms p w.at (s ∙ ap Some (event_exact g ρ f ms e i)) w.hold;
-          fresh = marked_fresh f ms atoms n p w.at used u w.fresh;
-          after_is = w.after_is;
+          hold = cons_hold g es ρ n (RightEvent true f ms) atoms p w.at (s ∙ ap Some (event_exact g ρ f ms e i)) w.hold;
+          fresh = cons_fresh n (RightEvent true f ms) atoms p w.at used (λ f ms e. x) w.fresh;
+          after_is = u.2 ∙ ap (λ (z : Used). (n, p) ∷ z) w.after_is;
         }
 
 -- the same atoms behind the first one
-fresh_later : (a : Atom) (atoms : List Atom) (n : ℕ) (at : ℕ → ℕ) (used : Used) → Fresh (a ∷ atoms) n at used → Fresh atoms (suc n) (λ k. at (suc k)) used
-fresh_later a atoms n at used h k m f ms e s = h (suc k) m f ms (omega arith) s
+fresh_later : (c : ℕ × Atom) (atoms : List (ℕ × Atom)) (at : ℕ → ℕ) (used : Used) → Fresh (c ∷ atoms) at used → Fresh atoms (λ k. at (suc k)) used
+fresh_later c atoms at used h k n m = h (suc k) n (marked_later c atoms k n m)
 
-fresh_after : (a : Atom) (atoms : List Atom) (n : ℕ) (at : ℕ → ℕ) (used : Used) → Fresh (a ∷ atoms) n at used → Fresh atoms (suc n) (λ k. at (suc k)) ((n, at 0) ∷ used)
-fresh_after a atoms n at used h k m f ms e s = ap₂ ◌||◌ (ap (λ b. b && (at 0 == at (suc k))) (ne_eqb n m (λ q. absurd (omega arith)))) (h (suc k) m f ms (omega arith) s)
-
-pub ways_complete : (g : Setting) (es : List Happened) (ρ : Indices) (n : ℕ) (atoms : List Atom) (used : Used) (at : ℕ → ℕ) → AtomsHold g es ρ atoms at → Fresh atoms n at used → Has (ways g es ρ n atoms used) (used_with atoms n at used)
+pub ways_complete : (g : Setting) (es : List Happened) (ρ : Indices) (used : Used) (atoms : List (ℕ × Atom)) (at : ℕ → ℕ) → AtomsHold g es ρ atoms at → Fresh atoms at used → Has (ways g es ρ used atoms) (used_with atoms at used)
 unfolding ways used_with
-ways_complete g es ρ n [] used at h u = inl refl
-ways_complete g es ρ n (RightTerm t ∷ atoms) used at h u =
-    subst (λ b. Has (cond b (ways g es ρ (suc n) atoms used) []) (used_with atoms (suc n) (λ k. at (suc k)) used)) (sym (eq-eqb (value g ρ nowhere t) 1 (h zero (RightTerm t) refl)))
-    (ways_complete g es ρ (suc n) atoms used (λ k. at (suc k)) (λ k. h (suc k)) (fresh_later (RightTerm t) atoms n at used u))
-ways_complete g es ρ n (RightEvent false f ms ∷ atoms) used at h u =
-    let s = has_stands es (right_event g ρ f ms) (contains_has es _ (h zero (RightEvent false f ms) refl)) in
-    has_flat_map (λ p. ways g es ρ (suc n) atoms used) (positions (is_event g ρ f ms) 0 es) s.0 _
+ways_complete g es ρ used [] at h u = inl refl
+ways_complete g es ρ used ((n, RightTerm t) ∷ atoms) at h u =
+    subst (λ b. Has (cond b (ways g es ρ used atoms) []) (used_with atoms (λ k. at (suc k)) used)) (sym (eq-eqb (value g ρ nowhere t) 1 (h zero n (RightTerm t) refl)))
+    (ways_complete g es ρ used atoms (λ k. at (suc k)) (λ k. h (suc k)) (fresh_later (n, RightTerm t) atoms at used u))
+ways_complete g es ρ used ((n, RightEvent false f ms) ∷ atoms) at h u =
+    let s = has_stands es (right_event g ρ f ms) (contains_has es _ (h zero n (RightEvent false f ms) refl)) in
+    has_flat_map (λ p. map (λ (u : Used). u) (ways g es ρ used atoms)) (positions (is_event g ρ f ms) 0 es) s.0 _
     (stand_positions (is_event g ρ f ms) 0 es s.0 s.0 _ (omega arith) s.1 (event_itself g ρ f ms _ refl))
-    (ways_complete g es ρ (suc n) atoms used (λ k. at (suc k)) (λ k. h (suc k)) (fresh_later (RightEvent false f ms) atoms n at used u))
-ways_complete g es ρ n (RightEvent true f ms ∷ atoms) used at h u =
-    let s : StandsAt es (at 0) (right_event g ρ f ms) = h zero (RightEvent true f ms) refl in
-    has_flat_map (λ p. cond (is_used used n p) [] (ways g es ρ (suc n) atoms ((n, p) ∷ used))) (positions (is_event g ρ f ms) 0 es) (at 0) _
+    (has_map (λ (u : Used). u) (ways g es ρ used atoms) (used_with atoms (λ k. at (suc k)) used)
+    (ways_complete g es ρ used atoms (λ k. at (suc k)) (λ k. h (suc k)) (fresh_later (n, RightEvent false f ms) atoms at used u)))
+ways_complete g es ρ used ((n, RightEvent true f ms) ∷ atoms) at h u =
+    let s : StandsAt es (at 0) (right_event g ρ f ms) = h zero n (RightEvent true f ms) refl in
+    has_flat_map (λ p. cond (is_used used n p) [] (map (λ (u : Used). (n, p) ∷ u) (ways g es ρ used atoms))) (positions (is_event g ρ f ms) 0 es) (at 0) _
     (stand_positions (is_event g ρ f ms) 0 es (at 0) (at 0) _ (omega arith) s (event_itself g ρ f ms _ refl))
-    (subst (λ b. Has (cond b [] (ways g es ρ (suc n) atoms ((n, at 0) ∷ used))) (used_with atoms (suc n) (λ k. at (suc k)) ((n, at 0) ∷ used))) (sym (u zero n f ms (omega arith) refl))
-    (ways_complete g es ρ (suc n) atoms ((n, at 0) ∷ used) (λ k. at (suc k)) (λ k. h (suc k)) (fresh_after (RightEvent true f ms) atoms n at used u)))
+    (subst (λ b. Has (cond b [] (map (λ (u : Used). (n, at 0) ∷ u) (ways g es ρ used atoms))) ((n, at 0) ∷ used_with atoms (λ k. at (suc k)) used)) (sym (u zero n (record { event = f; arguments = ms; stands = refl })))
+    (has_map (λ (u : Used). (n, at 0) ∷ u) (ways g es ρ used atoms) (used_with atoms (λ k. at (suc k)) used)
+    (ways_complete g es ρ used atoms (λ k. at (suc k)) (λ k. h (suc k)) (fresh_later (n, RightEvent true f ms) atoms at used u))))

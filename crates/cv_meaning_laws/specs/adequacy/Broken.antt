@@ -40,11 +40,14 @@ IsLeftAt q es i e = StandsAt es i e × (e.event ≡ q.event)
 
 -- the plain form
 
--- for some values of the variables on the right alone, the left event has its right events and terms
+-- for an alternative and some values of the variables on the right alone, the left event has the alternative's right events and
+-- terms
 pub record IsMet (g : Setting) (q : Correspondence) (es : List Happened) (e : Happened) : Type 0 where
+  pub alternative : List (ℕ × Atom)
+  pub is_alternative : Contains q.alternatives alternative
   pub others : List ℕ
   pub are_values : AreValues g q.others others
-  pub hold : (n : ℕ) (atom : Atom) → StandsAt q.atoms n atom → Holds g es (query_values q e others) atom
+  pub hold : (k n : ℕ) (atom : Atom) → StandsAt alternative k (n, atom) → Holds g es (query_values q e others) atom
 
 -- each left event that was recorded has
 abbrev pub AllMet : Setting → Correspondence → List Happened → Type 0
@@ -56,22 +59,30 @@ HasUnmet g q es = (i : ℕ) × (e : Happened) × IsLeftAt q es i e × (¬ IsMet 
 
 -- the injective form
 
--- by the position of a left event: values of the variables on the right alone, and a position for each
--- right event, by its number
+-- an atom with this number that is marked `inj` stands at a position
+pub record IsMarkedAt (alternative : List (ℕ × Atom)) (position number : ℕ) : Type 0 where
+  pub event : ℕ
+  pub arguments : Tree
+  pub stands : StandsAt alternative position (number, RightEvent true event arguments)
+
+-- by the position of a left event: an alternative, values of the variables on the right alone, and a position for each right
+-- event, by that of its atom in the alternative
 pub record Choice : Type 0 where
+  pub alternative : ℕ → List (ℕ × Atom)
   pub others : ℕ → List ℕ
   pub position : ℕ → ℕ → ℕ
 
--- under the choice each left event has its right events and terms, and no two left events have a right
--- event that is marked `inj` at one position
+-- under the choice each left event has the right events and terms of its alternative, and no two left events have a right event
+-- that is marked `inj`, by its number, at one position
 pub record IsMatching (g : Setting) (q : Correspondence) (es : List Happened) (c : Choice) : Type 0 where
+  pub are_alternatives : (i : ℕ) (e : Happened) → IsLeftAt q es i e → Contains q.alternatives (c.alternative i)
   pub are_values : (i : ℕ) (e : Happened) → IsLeftAt q es i e → AreValues g q.others (c.others i)
   pub hold : (i : ℕ) (e : Happened) → IsLeftAt q es i e →
-      (n : ℕ) (atom : Atom) → StandsAt q.atoms n atom →
-      HoldsWith g es (query_values q e (c.others i)) (c.position i n) atom
+      (k n : ℕ) (atom : Atom) → StandsAt (c.alternative i) k (n, atom) →
+      HoldsWith g es (query_values q e (c.others i)) (c.position i k) atom
   pub injective : (i j : ℕ) (d e : Happened) → IsLeftAt q es i d → IsLeftAt q es j e →
-      (n f : ℕ) (ms : Tree) → StandsAt q.atoms n (RightEvent true f ms) →
-      c.position i n ≡ c.position j n → i ≡ j
+      (k m n : ℕ) → IsMarkedAt (c.alternative i) k n → IsMarkedAt (c.alternative j) m n →
+      c.position i k ≡ c.position j m → i ≡ j
 
 abbrev pub HasMatching : Setting → Correspondence → List Happened → Type 0
 HasMatching g q es = (c : Choice) × IsMatching g q es c

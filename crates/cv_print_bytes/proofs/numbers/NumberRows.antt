@@ -11,6 +11,7 @@ use Rattle.cv_parse_grammar.specs.declared.role.Asked.TheVariants.{AParam}
 use Rattle.cv_parse_grammar.specs.declared.role.Region.{Region}
 use Rattle.cv_parse_grammar.specs.declared.role.Role.TheVariants.{Asks, BindsVariable}
 use Rattle.cv_parse_grammar.specs.Filled.{filled_at, now_below, on_channel, read_at, read_plainly}
+use Rattle.cv_parse_grammar.specs.Marks.{bare_name, conjunction_of, equality_of, marked_alone, marked_rule, mention_of, primary_of, term_of}
 use Rattle.cv_parse_grammar.specs.Phrases.{Phrase, Sort, or_else, after, row, bracket, square, listed, type_name, typed, vars, indices, inside}
 use Rattle.cv_parse_grammar.specs.Phrases as sort
 use Rattle.cv_parse_grammar.specs.Terms.{terms, arguments, subscript, parentheses, called, indexed, alone, mention, negation, truth, falsehood, primary, unequal, equal_to, unequal_to, equality, conjoined, conjunction, disjoined, term, cell_of, cell, cells, yes, condition}
@@ -197,6 +198,30 @@ module _ (count : ℕ) (some : nat_lt 0 count ≡ true) where
   of_term : Makes term HasNumbers
   of_term = turned (follow of_conjunction (perhaps of_disjoined)) (λ x w. after_is x.0 w.0 x.1 w.1)
 
+  -- the same, where names may have marks
+
+  bare_small : (x : ℕ) → nat_lt x count ≡ true → (o : Option (Unit {0})) → HasNumbers (bare_name x o)
+  bare_small x e None = alone_small e
+  bare_small x e (Some u) = alone_small e
+
+  of_marked_alone : Makes marked_alone Applies
+  of_marked_alone = turned (follow anything (perhaps anything)) (λ c w x e. bare_small x e c.1)
+
+  of_marked_mention : Makes (mention_of true) HasNumbers
+  of_marked_mention = leveled (turned (follow a_word (one_of of_called (one_of of_indexed of_marked_alone))) (λ x w. w.1 x.0 w.0))
+
+  of_marked_primary : Makes (primary_of true) HasNumbers
+  of_marked_primary = one_of of_marked_mention (one_of of_negation (one_of of_truth (one_of of_falsehood of_parentheses)))
+
+  of_marked_equality : Makes (equality_of true) HasNumbers
+  of_marked_equality = turned (follow of_marked_primary (perhaps (one_of of_equal_to of_unequal_to))) (λ x w. after_is x.0 w.0 x.1 w.1)
+
+  of_marked_conjunction : Makes (conjunction_of true) HasNumbers
+  of_marked_conjunction = turned (follow of_marked_equality (perhaps of_conjoined)) (λ x w. after_is x.0 w.0 x.1 w.1)
+
+  of_marked_term : Makes (term_of true) HasNumbers
+  of_marked_term = turned (follow of_marked_conjunction (perhaps of_disjoined)) (λ x w. after_is x.0 w.0 x.1 w.1)
+
   cell_is : (x : ℕ) → nat_lt x count ≡ true → (o : Option Tree) → IfThere HasNumbers o → HasNumbers (cell_of x o)
   cell_is x e None w = alone_small e
   cell_is x e (Some l) w = node_small e w empty_small
@@ -326,6 +351,12 @@ module _ (count : ℕ) (some : nat_lt 0 count ≡ true) where
   rows sort.Cells t y = of_cells.gives t y
   rows sort.OneCell t y = of_cell.gives t y
   rows _ t y = tt
+
+  pub marked_rows : (s : Sort) (t : Tree) → Holds count SmallOf (marked_rule s) t → SmallOf s t
+  marked_rows sort.Term t y = of_marked_term.gives t y
+  marked_rows sort.Conjunction t y = of_marked_conjunction.gives t y
+  marked_rows sort.Primary t y = of_marked_primary.gives t y
+  marked_rows s t y = rows s t y
 
   pub of_file : Makes file (λ f. HasNumbers f.game)
   of_file = turned (follow anything (follow anything (behind (enclosed of_inputs)))) (λ x w. w.1.1)

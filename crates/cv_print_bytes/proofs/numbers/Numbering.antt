@@ -11,7 +11,7 @@ use Rattle.cv_parse_notation.specs.Spells.{Each, IsSort, Kind, Perhaps, Relation
 use Rattle.cv_parse_notation.specs.Whole.{SpellsWith}
 use Rattle.cv_parse_grammar.specs.declared.role.Role.{Role}
 use Rattle.cv_parse_grammar.specs.Phrases.{Phrase, Sort}
-use Rattle.cv_parse_grammar.specs.Rules.{heads, rule}
+use Rattle.cv_parse_grammar.specs.Rules.{heads}
 use Rattle.cv_parse_grammar.specs.yields.Yields.{IfThere}
 use Rattle.cv_parse_grammar.proofs.yields.Yielding.{if_there}
 
@@ -86,7 +86,7 @@ module _ (count : ℕ) where
       spelled (level f) ts a us rest d w = spelled f ts a us rest d.1 w
       spelled (deeper s) ts a us rest d w = low s ts a us rest d w
 
-    module _ (rows : (s : Sort) (t : Tree) → Holds P (rule s) t → P s t) where
+    module _ (rule : Sort → Phrase Tree) (rows : (s : Sort) (t : Tree) → Holds P (rule s) t → P s t) where
       sorts_tell : (n : ℕ) (s : Sort) → Tells (IsSort heads rule n s) (P s)
       unfolding IsSort
       sorts_tell zero s ts t us rest d w = let x = spelled false no_sort (λ s ts t us rest e. absurd e) (rule s) ts t us rest d w in (rows s t x.0, x.1)

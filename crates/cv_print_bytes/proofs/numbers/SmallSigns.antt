@@ -31,7 +31,7 @@ use Rattle.cv_parse_tables.specs.terminals.Signs.{NumberBelow, Step, first_text,
 use Rattle.cv_parse_tables.proofs.terminals.Telling.{bool_first, numbers_below}
 use Rattle.cv_parse_grammar.specs.Filled.{first_site}
 use Rattle.cv_parse_grammar.specs.Files.{levels}
-use Rattle.cv_parse_grammar.specs.Rules.{File, file}
+use Rattle.cv_parse_grammar.specs.Rules.{File, file, rule}
 use Rattle.cv_parse_grammar.specs.Whole.{IsRead}
 use Rattle.cv_print_bytes.specs.Known.{is_named}
 use Rattle.cv_print_bytes.proofs.numbers.Numbering.{AreSmall, IsSmall, fits_label, forms_tell}
@@ -170,5 +170,5 @@ game_numbers bs ts ds s g w h r =
     let count = length (signs_of ts).names in
     let some : nat_lt 0 count ≡ true = lt-ltb 0 count (slice_get_within (signs_of ts).names 0 (codes "bool") (bool_first ts)) in
     let f : File = record { decls = ds; script = s; game = r.text } in
-    let y = forms_tell count (SmallOf count some) (rows count some) file levels (signs_of ts).signs f r.uses [] r.spelled (signs_small bs ts w h) in
+    let y = forms_tell count (SmallOf count some) rule (rows count some) file levels (signs_of ts).signs f r.uses [] r.spelled (signs_small bs ts w h) in
     (subst (HasNumbers count some) r.stands_for (filled_small count some (λ x. first_site x 0 r.text) [] r.text tt ((of_file count some).gives f y.0))).named

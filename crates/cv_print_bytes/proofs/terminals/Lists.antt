@@ -11,6 +11,8 @@ use Rattle.cv_parse_notation.specs.Spells.{Kind}
 use Rattle.cv_parse_grammar.specs.declared.role.Asked.TheVariants.{AParam}
 use Rattle.cv_parse_grammar.specs.declared.role.Role.{Role}
 use Rattle.cv_parse_grammar.specs.declared.role.Role.TheVariants.{Asks, AsksIndex, BindsVariable, MentionsCell}
+use Rattle.cv_parse_grammar.specs.Marks.{plain, plain_cell}
+use Rattle.cv_parse_grammar.proofs.Marks.{plain_cell_in_files, subscript_row}
 use Rattle.cv_parse_grammar.specs.Phrases.{Phrase, indices, listed, row, typed, type_name, vars}
 use Rattle.cv_parse_grammar.specs.Phrases as sort
 use Rattle.cv_parse_grammar.specs.Processes.{channel, variables}
@@ -21,8 +23,8 @@ use Rattle.cv_print_bytes.specs.terminals.Told.{Piece, shown, type_word, entry_t
 use Rattle.cv_print_bytes.specs.terminals.Told as told
 use Rattle.cv_print_bytes.specs.terminals.Written.{IsWritten, has_items, has_parameters}
 use Rattle.cv_print_bytes.proofs.terminals.Phrases.{both_below, deep, nil_is, no_phrase, parted}
-use Rattle.cv_print_bytes.proofs.terminals.Spelling.{Spelled, a_sign, a_word, behind, bracketed, by_told, by_word, down, free, is_absent, is_there, leveled, never, no_more, one_more_of, one_way, other_way, pair, squared, turned}
-use Rattle.cv_print_bytes.proofs.terminals.Terms.{leaf_alone, list_is, unary}
+use Rattle.cv_print_bytes.proofs.terminals.Spelling.{Spelled, SpelledBy, a_sign, a_word, behind, bracketed, by_told, by_word, down, down_by, free, is_absent, is_there, leveled, never, no_more, one_more_of, one_way, other_way, pair, squared, turned}
+use Rattle.cv_print_bytes.proofs.terminals.Terms.{leaf_by, list_is_by, some_items, unary_by}
 
 -- a type
 
@@ -156,23 +158,30 @@ channel_is {n = n} c (Node h a b) w = pair a_word free (turned (is_there (down (
 
 -- cells
 
--- the cell stands where one is asked for
+-- the cell stands where one is asked for, in files or where names may have marks
+
+abbrev pub CellAtBy : (marks : Bool) → ℕ → Tree → Type 0
+CellAtBy marks n t = (stop : Kind → Bool) → SpelledBy marks n cell (cell_told t) t stop
+
 abbrev pub CellAt : ℕ → Tree → Type 0
-CellAt n t = (stop : Kind → Bool) → Spelled n cell (cell_told t) t stop
+CellAt n t = CellAtBy false n t
+
+pub cell_is_by : (marks : Bool) (t : Tree) → IsWritten OneCell (plain_cell marks t) → (n : ℕ) → term_levels t ≤ n → CellAtBy marks n t
+unfolding is_phrase term_levels
+cell_is_by marks (Node (Leaf zero) a b) w n l stop = absurd (both_ways _ refl (parted OneCell Nil Nil (Leaf zero) (plain marks a) (plain marks b) refl w).here)
+cell_is_by marks (Node (Leaf (suc x)) a b) w n l stop =
+    let p = parted OneCell Nil Nil (Leaf (suc x)) (plain marks a) (plain marks b) refl w in
+    leaf_by marks (Leaf (suc x)) (λ t. SpelledBy marks n cell (told.word MentionsCell (suc x)) t stop) a b p.first p.second (leveled (turned (pair a_word free is_absent) refl))
+cell_is_by marks (Node (Read zero) a b) w n l stop = absurd (both_ways _ refl (parted OneCell Terms Nil (Read zero) (plain marks a) (plain marks b) refl w).here)
+cell_is_by marks (Node (Read (suc x)) a b) w n l stop =
+    let p = parted OneCell Terms Nil (Read (suc x)) (plain marks a) (plain marks b) refl w in
+    deep (λ m. SpelledBy marks m cell (cell_told (Node (Read (suc x)) a b)) (Node (Read (suc x)) a b) stop) n (terms_levels a) l (λ m k.
+    unary_by marks (Read (suc x)) (λ t. SpelledBy marks (suc m) cell (cell_told (Node (Read (suc x)) a b)) t stop) a b p.second (leveled (turned (pair a_word free (is_there (down_by (subscript_row marks) (squared (list_is_by marks a p.first (some_items marks a p.here) m k) refl)))) refl))
+    )
+cell_is_by marks t w n l stop = absurd (both_ways _ refl w.phrase)
 
 pub cell_is : (t : Tree) → IsWritten OneCell t → (n : ℕ) → term_levels t ≤ n → CellAt n t
-unfolding is_phrase term_levels
-cell_is (Node (Leaf zero) a b) w n l stop = absurd (both_ways _ refl (parted OneCell Nil Nil (Leaf zero) a b refl w).here)
-cell_is (Node (Leaf (suc x)) a b) w n l stop =
-    let p = parted OneCell Nil Nil (Leaf (suc x)) a b refl w in
-    leaf_alone (Leaf (suc x)) (λ t. Spelled n cell (told.word MentionsCell (suc x)) t stop) a b p (leveled (turned (pair a_word free is_absent) refl))
-cell_is (Node (Read zero) a b) w n l stop = absurd (both_ways _ refl (parted OneCell Terms Nil (Read zero) a b refl w).here)
-cell_is (Node (Read (suc x)) a b) w n l stop =
-    let p = parted OneCell Terms Nil (Read (suc x)) a b refl w in
-    deep (λ m. Spelled m cell (cell_told (Node (Read (suc x)) a b)) (Node (Read (suc x)) a b) stop) n (terms_levels a) l (λ m k.
-    unary (Read (suc x)) (λ t. Spelled (suc m) cell (cell_told (Node (Read (suc x)) a b)) t stop) a b p.second (leveled (turned (pair a_word free (is_there (down (squared (list_is a p.first p.here m k) refl)))) refl))
-    )
-cell_is t w n l stop = absurd (no_phrase OneCell t refl w)
+cell_is t w n l = cell_is_by false t (subst (IsWritten OneCell) (sym (plain_cell_in_files t)) w) n l
 
 record MoreCells (n : ℕ) (t : Tree) : Type 0 where
   items : List Tree

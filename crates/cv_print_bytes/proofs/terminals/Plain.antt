@@ -1,6 +1,6 @@
 -- The signs of terms hold no word `find`, and so stay as they are.
 use Rattle.std.proofs.Common.{◌≡◌, ℕ, zero, suc, List, [], ◌++◌, refl, ap, ◌∙◌}
-use Rattle.cv_syntax_trees.specs.declared.head.Head.TheVariants.{Leaf, Read, Apply, Eq, And, Or, Not, Yes, No}
+use Rattle.cv_syntax_trees.specs.declared.head.Head.TheVariants.{Leaf, Primed, Read, Apply, Eq, And, Or, Not, Yes, No}
 use Rattle.cv_syntax_trees.specs.Tree.{Tree, Empty, Node}
 use Rattle.cv_parse_notation.specs.declared.sign.Mark.{Mark}
 use Rattle.cv_parse_notation.specs.declared.sign.Sign.{Sign}
@@ -32,6 +32,7 @@ mutual
 
   pub of_term : (t : Tree) → Plain (term_signs t)
   of_term (Node (Leaf x) a b) = name x
+  of_term (Node (Primed x) a b) = name x and symbol
   of_term (Node (Read x) a b) = name x and symbol and of_terms nothing a and symbol
   of_term (Node (Apply f) a b) = name f and symbol and of_terms nothing a and symbol
   of_term (Node Eq a b) = symbol and of_term a and symbol and of_term b and symbol

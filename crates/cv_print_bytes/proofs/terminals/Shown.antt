@@ -1,7 +1,7 @@
 -- The tokens of a text with what is told about names are its signs.
 use Rattle.std.proofs.Common.{◌≡◌, ℕ, zero, suc, List, [], ◌∷◌, ◌++◌, refl, ap, ◌∙◌}
 use Rattle.cv_syntax_trees.specs.declared.head.Head.{Head}
-use Rattle.cv_syntax_trees.specs.declared.head.Head.TheVariants.{Stop, Yield, Par, Repl, In, Out, Event, New, Let, If, Find, Leaf, Read, Apply, Eq, And, Or, Not, Yes, No, Binder, Name}
+use Rattle.cv_syntax_trees.specs.declared.head.Head.TheVariants.{Stop, Yield, Par, Repl, In, Out, Event, New, Let, If, Find, Leaf, Primed, Read, Apply, Eq, And, Or, Not, Yes, No, Binder, Name}
 use Rattle.cv_syntax_trees.specs.Tree.{Tree, Empty, Node, first, second}
 use Rattle.cv_parse_notation.specs.declared.sign.Mark.{Mark}
 use Rattle.cv_parse_notation.specs.declared.sign.Mark.TheVariants as mark
@@ -81,6 +81,7 @@ mutual
 
   pub of_term : (t : Tree) → Shows (term_told t) (term_signs t)
   of_term (Node (Leaf x) a b) = name and told_before nothing
+  of_term (Node (Primed x) a b) = name and told_before symbol
   of_term (Node (Read x) a b) = name and told_before (symbol and of_terms nothing a and symbol)
   of_term (Node (Apply f) a b) = name and told_before (symbol and of_terms nothing a and symbol)
   of_term (Node Eq a b) = symbol and of_term a and symbol and of_term b and symbol

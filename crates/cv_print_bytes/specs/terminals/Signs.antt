@@ -2,7 +2,7 @@
 use Rattle.std.specs.Prelude.{ℕ, zero, suc, List, [], ◌∷◌, ◌++◌}
 use Rattle.cv_syntax_trees.specs.Tree.{Tree, Empty, Node, first, second}
 use Rattle.cv_syntax_trees.specs.declared.head.Head.{Head}
-use Rattle.cv_syntax_trees.specs.declared.head.Head.TheVariants.{Stop, Yield, Par, Repl, In, Out, Event, New, Let, If, Find, Leaf, Read, Apply, Eq, And, Or, Not, Yes, No, Binder, Name}
+use Rattle.cv_syntax_trees.specs.declared.head.Head.TheVariants.{Stop, Yield, Par, Repl, In, Out, Event, New, Let, If, Find, Leaf, Primed, Read, Apply, Eq, And, Or, Not, Yes, No, Binder, Name}
 use Rattle.cv_parse_notation.specs.declared.script.ScriptWord.TheVariants.{Plain}
 use Rattle.cv_parse_notation.specs.declared.sign.Mark.{Mark}
 use Rattle.cv_parse_notation.specs.declared.sign.Mark.TheVariants as mark
@@ -51,6 +51,7 @@ entries_signs between before (Node h a b) = before ⁀ entry_signs between h ⁀
 unfoldable mutual
   pub term_signs : Tree → List Sign
   term_signs (Node (Leaf x) a b) = named x
+  term_signs (Node (Primed x) a b) = named x ⁀ one mark.Prime
   term_signs (Node (Read x) a b) = named x ⁀ one mark.OpenSquare ⁀ terms_signs [] a ⁀ one mark.CloseSquare
   term_signs (Node (Apply f) a b) = named f ⁀ one mark.Open ⁀ terms_signs [] a ⁀ one mark.Close
   term_signs (Node Eq a b) = one mark.Open ⁀ term_signs a ⁀ one mark.Equal ⁀ term_signs b ⁀ one mark.Close

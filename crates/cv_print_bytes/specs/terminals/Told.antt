@@ -3,7 +3,7 @@
 use Rattle.std.specs.Prelude.{ℕ, zero, suc, ◌+◌, List, [], ◌∷◌, length}
 use Rattle.cv_syntax_trees.specs.Tree.{Tree, Empty, Node, first, second}
 use Rattle.cv_syntax_trees.specs.declared.head.Head.{Head}
-use Rattle.cv_syntax_trees.specs.declared.head.Head.TheVariants.{Stop, Yield, Par, Repl, In, Out, Event, New, Let, If, Find, Leaf, Read, Apply, Eq, And, Or, Not, Yes, No, Binder, Name}
+use Rattle.cv_syntax_trees.specs.declared.head.Head.TheVariants.{Stop, Yield, Par, Repl, In, Out, Event, New, Let, If, Find, Leaf, Primed, Read, Apply, Eq, And, Or, Not, Yes, No, Binder, Name}
 use Rattle.cv_parse_notation.specs.declared.sign.Mark.{Mark}
 use Rattle.cv_parse_notation.specs.declared.sign.Mark.TheVariants as mark
 use Rattle.cv_parse_notation.specs.declared.sign.Sign.{Sign}
@@ -75,6 +75,7 @@ indices_told l = entries_told BindsVariable (shown mark.AtMost) (word (Asks APar
 unfoldable mutual
   pub term_told : Tree → List Piece
   term_told (Node (Leaf x) a b) = word Mentions x ⁀ tells AsBare
+  term_told (Node (Primed x) a b) = word Mentions x ⁀ tells AsBare ⁀ shown mark.Prime
   term_told (Node (Read x) a b) = word Mentions x ⁀ tells AsArray ⁀ shown mark.OpenSquare ⁀ terms_told [] a ⁀ shown mark.CloseSquare
   term_told (Node (Apply f) a b) = word Mentions f ⁀ tells AsCall ⁀ shown mark.Open ⁀ terms_told [] a ⁀ shown mark.Close
   term_told (Node Eq a b) = shown mark.Open ⁀ term_told a ⁀ shown mark.Equal ⁀ term_told b ⁀ shown mark.Close

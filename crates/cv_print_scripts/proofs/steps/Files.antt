@@ -9,6 +9,7 @@ use Rattle.cv_parse_notation.specs.declared.sign.Sign.TheVariants as token
 use Rattle.cv_parse_notation.specs.Form.{sign, script_word, word, number, nought, find_word, unnamed, other, note, both, may, many, either, made, level, deeper}
 use Rattle.cv_parse_notation.specs.Spells.{Kind, AWord, kind_of, is_other, may_vanish, starts, starts_both, next_is, Relation, used, Perhaps, Each, Spells, IsSort, no_sort}
 use Rattle.cv_parse_grammar.specs.declared.role.Role.{Role}
+use Rattle.cv_parse_grammar.specs.Marks.{marked_rule}
 use Rattle.cv_parse_grammar.specs.Phrases.{Phrase, Sort, Term, Conjunction, Primary, Unequal, Arguments, Subscript, Parentheses, Inputs, Input, Output, Pattern, Sending, Payload, Variables, Indices, ProcessBranch, Cells, OneCell, Body, BodyBranch, LeftFunction, RightFunction, RightRest, Braces}
 use Rattle.cv_parse_grammar.specs.Names.{Uses}
 use Rattle.cv_parse_grammar.specs.Rules.{heads, rule}
@@ -54,6 +55,32 @@ rules_are_quiet LeftFunction = refl
 rules_are_quiet RightFunction = refl
 rules_are_quiet RightRest = refl
 rules_are_quiet Braces = refl
+
+marked_rules_are_quiet : (s : Sort) → is_quiet (marked_rule s) ≡ true
+marked_rules_are_quiet Term = refl
+marked_rules_are_quiet Conjunction = refl
+marked_rules_are_quiet Primary = refl
+marked_rules_are_quiet Unequal = refl
+marked_rules_are_quiet Arguments = refl
+marked_rules_are_quiet Subscript = refl
+marked_rules_are_quiet Parentheses = refl
+marked_rules_are_quiet Inputs = refl
+marked_rules_are_quiet Input = refl
+marked_rules_are_quiet Output = refl
+marked_rules_are_quiet Pattern = refl
+marked_rules_are_quiet Sending = refl
+marked_rules_are_quiet Payload = refl
+marked_rules_are_quiet Variables = refl
+marked_rules_are_quiet Indices = refl
+marked_rules_are_quiet ProcessBranch = refl
+marked_rules_are_quiet Cells = refl
+marked_rules_are_quiet OneCell = refl
+marked_rules_are_quiet Body = refl
+marked_rules_are_quiet BodyBranch = refl
+marked_rules_are_quiet LeftFunction = refl
+marked_rules_are_quiet RightFunction = refl
+marked_rules_are_quiet RightRest = refl
+marked_rules_are_quiet Braces = refl
 
 -- it begins with any identifier or with none
 
@@ -139,10 +166,10 @@ module _ (words : Words) (table : Table) where
     is_said (level f) q ts a us rest d = (d.0, is_said f q ts a us rest d.1)
     is_said (deeper s) q ts a us rest d = up s ts a us rest d
 
-  pub sort_is_said : (n : ℕ) (s : Sort) → Says (IsSort heads rule n s) (IsSort (table_heads table) (table_rule table) n (OfFiles s))
+  pub sort_is_said : (n : ℕ) (s : Sort) → Says (IsSort heads marked_rule n s) (IsSort (table_heads table) (table_rule table) n (OfFiles s))
   unfolding IsSort
-  sort_is_said zero s ts a us rest d = is_said false no_sort no_sort (λ s ts a us rest e. absurd e) (rule s) (rules_are_quiet s) ts a us rest d
-  sort_is_said (suc n) s ts a us rest d = is_said true (IsSort heads rule n) (IsSort (table_heads table) (table_rule table) n) (sort_is_said n) (rule s) (rules_are_quiet s) ts a us rest d
+  sort_is_said zero s ts a us rest d = is_said false no_sort no_sort (λ s ts a us rest e. absurd e) (marked_rule s) (marked_rules_are_quiet s) ts a us rest d
+  sort_is_said (suc n) s ts a us rest d = is_said true (IsSort heads marked_rule n) (IsSort (table_heads table) (table_rule table) n) (sort_is_said n) (marked_rule s) (marked_rules_are_quiet s) ts a us rest d
 
   pub said_append : (ss rest : List Sign) → say rest ≡ rest → say (ss ++ rest) ≡ say ss ++ rest
   said_append ss rest e = map-append (spoken words) ss rest ∙ ap (λ l. say ss ++ l) e

@@ -1,8 +1,9 @@
 -- Phrases of files in a row: their heads, and the signs that they begin with.
 use Rattle.std.proofs.Common.{◌≡◌, ℕ, zero, suc, true, false, List, [], ◌∷◌, ◌++◌, refl, ap, subst, ◌∙◌, arith}
+use Rattle.std.proofs.lemmas.Bool.{both_ways}
 use Rattle.std.proofs.lemmas.List.{append-nil}
 use Rattle.cv_syntax_trees.specs.declared.head.Head.{Head}
-use Rattle.cv_syntax_trees.specs.declared.head.Head.TheVariants.{Leaf, Read, Apply, Eq, And, Or, Not, Yes, No}
+use Rattle.cv_syntax_trees.specs.declared.head.Head.TheVariants.{Leaf, Primed, Read, Apply, Eq, And, Or, Not, Yes, No}
 use Rattle.cv_syntax_trees.specs.Tree.{Tree, Empty, Node}
 use Rattle.cv_parse_notation.specs.declared.sign.Sign.{Sign}
 use Rattle.cv_parse_notation.specs.declared.sign.Sign.TheVariants as token
@@ -10,9 +11,10 @@ use Rattle.cv_parse_notation.specs.Spells.{IsSort, may_vanish, next_is, starts}
 use Rattle.cv_parse_notation.proofs.Complete.{begins_with}
 use Rattle.cv_parse_notation.proofs.Sorts.{begins}
 use Rattle.cv_parse_grammar.specs.Names.{Uses}
+use Rattle.cv_parse_grammar.specs.Marks.{marked_rule, marked_tails, plain, plain_cell}
 use Rattle.cv_parse_grammar.specs.Phrases.{Sort}
-use Rattle.cv_parse_grammar.specs.Rules.{heads, rule, tails}
-use Rattle.cv_parse_grammar.proofs.Fitting.{all_fit}
+use Rattle.cv_parse_grammar.specs.Rules.{heads}
+use Rattle.cv_parse_grammar.proofs.Fitting.{all_marked_fit}
 use Rattle.cv_parse_terms.specs.Gives.{positive}
 use Rattle.cv_parse_tables.specs.declared.piece.Outer.{Outer}
 use Rattle.cv_parse_tables.specs.declared.piece.Outer.TheVariants as outer
@@ -21,7 +23,6 @@ use Rattle.cv_print_tables.specs.Layout as lay
 use Rattle.cv_print_tables.specs.Prints.{is_outer, is_term}
 use Rattle.cv_scope_rules.specs.Phrases.{OneCell, Term, is_phrase}
 use Rattle.cv_print_bytes.specs.terminals.Written.{IsWritten, has_items}
-use Rattle.cv_print_bytes.proofs.terminals.Phrases.{no_phrase}
 use Rattle.cv_print_scripts.specs.steps.Apart.{ATerm, firsts, one_is_first, trails}
 use Rattle.cv_print_scripts.specs.steps.Shown.{Words, outer_levels, outer_signs}
 use Rattle.cv_print_scripts.specs.steps.Trees.{IsOuter}
@@ -39,8 +40,9 @@ outer_trails outer.InnerCell = refl
 
 -- heads
 
-term_firm : (t : Tree) → IsWritten Term t → FirmHead (lay.outer outer.Term) t
-unfolding is_phrase
+term_firm : (t : Tree) → IsWritten Term (plain true t) → FirmHead (lay.outer outer.Term) t
+unfolding is_phrase plain
+term_firm (Node (Primed x) a b) w = (refl, refl)
 term_firm (Node (Leaf x) a b) w = (refl, refl)
 term_firm (Node (Read x) a b) w = (refl, refl)
 term_firm (Node (Apply f) a b) w = (refl, refl)
@@ -50,13 +52,13 @@ term_firm (Node Or a b) w = (refl, refl)
 term_firm (Node Not a b) w = (refl, refl)
 term_firm (Node Yes a b) w = (refl, refl)
 term_firm (Node No a b) w = (refl, refl)
-term_firm t w = absurd (no_phrase Term t refl w)
+term_firm t w = absurd (both_ways _ refl w.phrase)
 
-cell_firm : (t : Tree) → IsWritten OneCell t → FirmHead (lay.outer outer.Term) t
+cell_firm : (t : Tree) → IsWritten OneCell (plain_cell true t) → FirmHead (lay.outer outer.Term) t
 unfolding is_phrase
 cell_firm (Node (Leaf x) a b) w = (refl, refl)
 cell_firm (Node (Read x) a b) w = (refl, refl)
-cell_firm t w = absurd (no_phrase OneCell t refl w)
+cell_firm t w = absurd (both_ways _ refl w.phrase)
 
 terms_firm : (t : Tree) → has_items t ≡ true → FirmHead (lay.outer outer.Terms) t
 terms_firm Empty e = absurd (cc)
@@ -81,9 +83,9 @@ outer_firm outer.InnerCell t w = told_alike outer.InnerCell t refl (λ h. refl) 
 
 -- signs
 
-lower_begins : (m : ℕ) (s : Sort) (ts : List Sign) (t : Tree) (us : Uses) (rest : List Sign) → Lower (IsSort heads rule) m s ts t us rest → next_is (heads s) ts ≡ true
+lower_begins : (m : ℕ) (s : Sort) (ts : List Sign) (t : Tree) (us : Uses) (rest : List Sign) → Lower (IsSort heads marked_rule) m s ts t us rest → next_is (heads s) ts ≡ true
 lower_begins zero s ts t us rest d = absurd d
-lower_begins (suc n) s ts t us rest d = begins heads tails rule all_fit n s ts t us rest d
+lower_begins (suc n) s ts t us rest d = begins heads marked_tails marked_rule all_marked_fit n s ts t us rest d
 
 stays : (p : Outer) → may_vanish (outer_form p) ≡ false
 stays outer.Term = refl
@@ -97,7 +99,7 @@ file_begins : (p : Outer) (t : Tree) → IsOuter p t → next_is (starts heads (
 file_begins p t w =
     let m = outer_levels p t in
     let d = file_back t [] refl m p w (omega arith) in
-    subst (λ z. next_is (starts heads (outer_form p)) z ≡ true) (append-nil (outer_signs p t)) (begins_with heads (positive m) (Lower (IsSort heads rule) m) (lower_begins m) (outer_form p) (stays p) (outer_signs p t ++ []) t d.0 [] d.1)
+    subst (λ z. next_is (starts heads (outer_form p)) z ≡ true) (append-nil (outer_signs p t)) (begins_with heads (positive m) (Lower (IsSort heads marked_rule) m) (lower_begins m) (outer_form p) (stays p) (outer_signs p t ++ []) t d.0 [] d.1)
 
 module _ (words : Words) (table : Table) where
   pub outer_front : (p : Outer) (t : Tree) → IsOuter p t → Front words table (starts (table_heads table) (carried (outer_form p))) (may_vanish (carried (outer_form p))) (say words table (outer_signs p t))

@@ -3,6 +3,7 @@ use Rattle.std.specs.Prelude.{◌≡◌, ℕ, zero, suc, ◌+◌, Bool, true, fa
 use Rattle.std.specs.List.{AllByRecursion}
 use Rattle.cv_syntax_trees.specs.declared.head.Head.TheVariants as head
 use Rattle.cv_syntax_trees.specs.Tree.{Tree, chain, lone}
+use Rattle.cv_parse_grammar.specs.Marks.{plain, plain_cell}
 use Rattle.cv_parse_tables.specs.declared.piece.Outer.{Outer}
 use Rattle.cv_parse_tables.specs.declared.piece.Outer.TheVariants as outer
 use Rattle.cv_parse_tables.specs.declared.piece.Piece.{Piece}
@@ -12,17 +13,17 @@ use Rattle.cv_parse_tables.specs.Trees.{all_of, over, single}
 use Rattle.cv_scope_rules.specs.Phrases.{OneCell, Term, Terms}
 use Rattle.cv_print_bytes.specs.terminals.Written.{IsWritten, has_items}
 
--- terms, and one at least
+-- terms, and one at least; names in them may have marks
 pub record AreTerms (t : Tree) : Type 0 where
-  pub written : IsWritten Terms t
+  pub written : IsWritten Terms (plain true t)
   pub some : has_items t ≡ true
 
 abbrev pub IsOuter : Outer → Tree → Type 0
 IsOuter outer.Terms t = AreTerms t
 IsOuter outer.InnerSubscript t = AreTerms t
-IsOuter outer.Cell t = IsWritten OneCell t
-IsOuter outer.InnerCell t = IsWritten OneCell t
-IsOuter p t = IsWritten Term t
+IsOuter outer.Cell t = IsWritten OneCell (plain_cell true t)
+IsOuter outer.InnerCell t = IsWritten OneCell (plain_cell true t)
+IsOuter p t = IsWritten Term (plain true t)
 
 abbrev pub Makes : Type 1
 Makes = List Tree → Type 0

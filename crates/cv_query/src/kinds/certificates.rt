@@ -4,6 +4,7 @@ ghost use Rattle.cv_syntax_trees.specs.Tree.{first, second};
 ghost use Rattle.cv_syntax.specs.PoolTrees.{tree_at};
 ghost use Rattle.cv_meaning.specs.Correspondences.{is_once};
 ghost use Rattle.cv_query_certificates.specs.Accepted as accepted;
+ghost use Rattle.cv_query_certificates.specs.Alternatives as alternatives;
 
 use cv_syntax::children::{first_of, is_empty, second_of};
 use cv_syntax::{Head, NodeId, Pool, read_node};
@@ -18,6 +19,22 @@ fn is_marked(pool: &Pool, event: Option<NodeId>) -> bool
         return false;
     };
     matches!(read_node(pool, k).head, Head::OccursOnce(_))
+}
+
+/// Whether a right side has neither `||` nor parentheses.
+#[tactic(auto, using(cv_syntax::proofs::Trees::opened))]
+pub(crate) fn is_list(pool: &Pool, right: Option<NodeId>) -> bool
+    requires { ChildBelow (length pool.now.trees) right }
+    ensures { result ≡ alternatives.is_list (tree_at pool.now.trees right) }
+{
+    let Some(k) = right else {
+        return true;
+    };
+    match read_node(pool, k).head {
+        Head::AllOf => false,
+        Head::SomeOf => false,
+        _ => true,
+    }
 }
 
 /// Whether a part of a certificate is a list of distinct variables.
@@ -93,7 +110,8 @@ pub fn is_built(pool: &Pool, query: NodeId, certificate: Option<NodeId>) -> bool
     match node.head {
         Head::Query => {
             let left = first_of(pool, node.second);
-            !is_marked(pool, left) && names_no_distinct(pool, certificate)
+            let right = second_of(pool, node.second);
+            !is_marked(pool, left) && (is_list(pool, right) && names_no_distinct(pool, certificate))
         }
         Head::Secret(_) | Head::SecretOnce(_) => {
             names_no_distinct(pool, certificate) && gives_no_pair(pool, certificate)

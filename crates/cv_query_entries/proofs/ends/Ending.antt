@@ -5,9 +5,9 @@ use Rattle.cv_lists.proofs.Tests.{and_true}
 use Rattle.cv_syntax_trees.specs.declared.head.Head.{Head}
 use Rattle.cv_syntax_trees.specs.declared.head.Head.TheVariants.{Eq}
 use Rattle.cv_syntax_trees.specs.Tree.{Tree, Empty, Node, same_tree}
-use Rattle.cv_derive_rules.specs.Ends.{is_end, same_statement, same_statements}
+use Rattle.cv_scene.specs.lines.Ends.{is_end, same_statement, same_statements}
 use Rattle.cv_syntax_trees.specs.Children.{is_empty}
-use Rattle.cv_derive_rules.specs.Lines.{Statement, Holds, IsDefined, lines_of, statements}
+use Rattle.cv_scene.specs.lines.Lines.{Statement, Holds, IsDefined, lines_of, statements}
 use Rattle.cv_derive_reasons.specs.inferences.Sides.{sides_of}
 use Rattle.cv_derive_reasons.proofs.inferences.Forms.{over_form, tested}
 use Rattle.cv_query_entries.proofs.ends.Lines.{nothing_said, some_said}

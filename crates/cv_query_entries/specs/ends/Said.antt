@@ -2,7 +2,7 @@
 use Rattle.std.specs.Prelude.{Bool, false, List, [], ◌∷◌, Option, Some, None}
 use Rattle.cv_syntax_trees.specs.declared.head.Head.TheVariants.{Eq}
 use Rattle.cv_syntax_trees.specs.Tree.{Tree, Node, same_tree}
-use Rattle.cv_derive_rules.specs.Lines.{Statement, Holds}
+use Rattle.cv_scene.specs.lines.Lines.{Statement, Holds}
 
 -- the terms of two lists are equal, one by one
 abbrev pub said_equal : (ms ns : Tree) → List Statement

@@ -4,7 +4,7 @@ use Rattle.cv_lists.specs.Options.{first_of}
 use Rattle.cv_syntax_trees.specs.declared.head.Head.{Head}
 use Rattle.cv_syntax_trees.specs.declared.head.Head.TheVariants.{Leaf}
 use Rattle.cv_syntax_trees.specs.Tree.{Tree, Empty, Node}
-use Rattle.cv_derive_rules.specs.Given.{or_node, term_for}
+use Rattle.cv_scene.specs.lines.Given.{or_node, term_for}
 
 -- the term that is given for a name, if there is one
 abbrev pub Terms : Type 0

@@ -2,8 +2,8 @@ ghost use Rattle.std.specs.Prelude.{◌≡◌, ◌-◌, ◌<◌, ◌≤◌, ◌�
 ghost use Rattle.cv_pool.specs.Nodes.{ChildBelow};
 ghost use Rattle.cv_syntax_trees.specs.Tree.{Tree};
 ghost use Rattle.cv_syntax.specs.PoolTrees.{tree_at};
-ghost use Rattle.cv_derive_rules.specs.Ends.{is_end};
-ghost use Rattle.cv_derive_rules.specs.Lines.{Holds, lines_of, statements};
+ghost use Rattle.cv_scene.specs.lines.Ends.{is_end};
+ghost use Rattle.cv_scene.specs.lines.Lines.{Holds, lines_of, statements};
 ghost use Rattle.cv_query_entries.specs.terms.Parts.{found_tree};
 ghost use Rattle.cv_query_entries.specs.ends.Said.{is_that};
 

@@ -3,7 +3,7 @@ ghost use Rattle.cv_pool.specs.Nodes.{ChildBelow};
 ghost use Rattle.cv_syntax_trees.specs.Tree.{Empty, Node, same_tree};
 ghost use Rattle.cv_syntax.specs.PoolTrees.{tree_at};
 ghost use Rattle.cv_meaning.specs.Correspondences.{leaf_names};
-ghost use Rattle.cv_derive_rules.specs.Given as derivations;
+ghost use Rattle.cv_scene.specs.lines.Given as derivations;
 ghost use Rattle.cv_query_entries.specs.terms.Given.{given_by, names_in};
 ghost use Rattle.cv_query_entries.specs.terms.Parts.{IsGivenBelow, found_tree, left_of, part_tree, terms_of};
 

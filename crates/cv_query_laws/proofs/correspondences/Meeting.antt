@@ -38,9 +38,9 @@ use Rattle.cv_scope_runs.proofs.Games.{Game}
 use Rattle.cv_scope_runs.proofs.PathRuns.{SiteHolds, StoreHolds}
 use Rattle.cv_scope_runs.proofs.Standing.{stands_definition, stands_known}
 use Rattle.cv_scope_runs.proofs.TermsLater.{AllReadable, LeafReads, Readable, cell, constant, index}
-use Rattle.cv_derive_rules.specs.Given.{with_given}
-use Rattle.cv_derive_rules.specs.Lines.{lines_of, statements}
-use Rattle.cv_derive_rules.specs.Targets.{falsity}
+use Rattle.cv_scene.specs.lines.Given.{with_given}
+use Rattle.cv_scene.specs.lines.Lines.{lines_of, statements}
+use Rattle.cv_scene.specs.lines.Targets.{falsity}
 use Rattle.cv_derive_laws.proofs.Substitution.{names_of, put_value, put_values}
 use Rattle.cv_derive_laws.proofs.stores.Terms.{term_sorted}
 use Rattle.cv_derive_laws.specs.stores.Holding.{IsReady}
@@ -49,6 +49,7 @@ use Rattle.cv_scene.specs.Scenes.{Scene}
 use Rattle.cv_scene.specs.Sights.{at_cell, is_cell_at, is_term_of, sight_at}
 use Rattle.cv_scene.specs.Terms.{above_at, is_sort, is_term_at, replications_at, replications_by, signature_in}
 use Rattle.cv_query_certificates.specs.Accepted.{IsEntry, Proves}
+use Rattle.cv_query_certificates.specs.Alternatives.{atoms_in, first_of_alternatives, only_atoms}
 use Rattle.cv_query_certificates.specs.Claims.{at_place, behind_cell, claim_of, claims_of, equations, joined}
 use Rattle.cv_query_certificates.specs.Claims as claims
 use Rattle.cv_query_certificates.specs.EventNodes.{are_for, arguments_at, is_event_above, only_site, place_in, the_only}
@@ -336,9 +337,18 @@ module _ (s : Scene) (i : Interpretation) (ready : IsReady s.declarations s.game
       let c = and_parts (have_types (sight_at s p) q.others ws) _ b.1 in
       record {
         are_values = witnesses_sorted ws b.0 q.others ws c.0;
-        hold = routes_met ws b.0 c.0 E above behind q.atoms routes o c.1 z.claims;
+        hold = routes_met ws b.0 c.0 E above behind (only_atoms q) routes o c.1 z.claims;
       }
   entry_met_by E above behind entry o z = absurd (both_ways _ refl z.form)
+
+  -- an atom of the only alternative by its number
+  atom_at : (cs : List (ℕ × Atom)) (k n : ℕ) (c : Atom) → StandsAt cs k (n, c) → StandsAt (atoms_in cs) k c
+  atom_at [] k n c s = absurd (no_pair s)
+    where
+      no_pair : ◌≡◌ {A = Option (ℕ × Atom)} None (Some (n, c)) → ⊥
+      no_pair s = cc
+  atom_at (d ∷ cs) zero n c s = let same : d ≡ (n, c) = cc in ap (λ (z : ℕ × Atom). Some z.1) same
+  atom_at (d ∷ cs) (suc k) n c s = atom_at cs k n c s
 
   -- so the event is met by the events that were recorded
   module _ (es : List Happened) (kept : EventsKept l.memory.events es) where
@@ -352,11 +362,15 @@ module _ (s : Scene) (i : Interpretation) (ready : IsReady s.declarations s.game
     held_of ρ (RightEvent inj f ms) route h = h
     held_of ρ (RightTerm t) route h = h
 
-    pub entry_met : (entry : Tree) → HasNamedAtoms s.declarations q → IsEntry s q p entry → IsMet g q es left
-    entry_met entry o z =
+    pub entry_met : (atoms : List (ℕ × Atom)) → q.alternatives ≡ atoms ∷ [] → (entry : Tree) → HasNamedAtoms s.declarations q → IsEntry s q p entry → IsMet g q es left
+    entry_met atoms only entry o z =
         let r = entry_met_by (λ n u e. Contains es e) recorded_above recorded_behind entry o z in
         record {
+          alternative = atoms;
+          is_alternative = subst (λ alternatives. Contains alternatives atoms) (sym only) (0, omega arith, refl);
           others = values_here g l (witnesses_of entry);
           are_values = r.are_values;
-          hold = λ n c k. held_of (query_values q left (values_here g l (witnesses_of entry))) c (item_at (routes_of entry) n) (r.hold n c k);
+          hold = λ k j a x.
+              held_of (query_values q left (values_here g l (witnesses_of entry))) a (item_at (routes_of entry) k)
+              (r.hold k a (subst (λ cs. StandsAt cs k a) (sym (ap first_of_alternatives only)) (atom_at atoms k j a x)));
         }

@@ -9,7 +9,9 @@ use Rattle.cv_syntax_trees.specs.Declarations.{Declaration}
 use Rattle.cv_syntax_trees.specs.Tree.{Tree, Empty, Node, bound_names, head_reads_only, reads_only}
 use Rattle.cv_meaning.specs.Correspondences.{Atom, Correspondence, RightEvent, RightTerm, atom_of, atoms_of, correspondence_from, correspondence_of, reads, typed_names}
 use Rattle.cv_derive_laws.specs.stores.Truth.{AreOver, IsOver, is_name_of}
+use Rattle.cv_query_certificates.specs.Alternatives.{first_of_alternatives, has_list, only_atoms}
 use Rattle.cv_query_certificates.specs.Claims.{names_of}
+use Rattle.cv_query_certificates.proofs.Alternatives.{list_only, numbered_atoms}
 use Rattle.cv_query_laws.specs.correspondences.Premises.{is_correspondence}
 use Rattle.cv_query.specs.kinds.Closed.{AreClosedAtoms, IsClosedAtom, IsClosedQuery, IsKnown}
 
@@ -23,7 +25,7 @@ IsNamedAtom ds q (RightEvent inj f ms) = AreOver (IsNamed ds q) ⊥ ms
 IsNamedAtom ds q (RightTerm m) = IsOver (IsNamed ds q) ⊥ m
 
 abbrev pub HasNamedAtoms : List Declaration → Correspondence → Type 0
-HasNamedAtoms ds q = AllByRecursion (IsNamedAtom ds q) q.atoms
+HasNamedAtoms ds q = AllByRecursion (IsNamedAtom ds q) (only_atoms q)
 
 -- what a part reads is read
 
@@ -145,7 +147,10 @@ module _ (ds : List Declaration) (bs left whole : Tree) where
   atoms_named Empty f o = tt
   atoms_named (Node h a b) f o = (atom_named a (λ x r. f x (reads_first x h a b r)) o.0, atoms_named b (λ x r. f x (reads_second x h a b r)) o.1)
 
-pub closed_named : (ds : List Declaration) (query : Tree) → is_correspondence query ≡ true → IsClosedQuery ds query → HasNamedAtoms ds (correspondence_of query)
-closed_named ds (Node Query bs (Node h left atoms)) b o = atoms_named ds bs left atoms atoms (λ x r. r) o
-closed_named ds (Node Query bs Empty) b o = tt
-closed_named ds query b o = absurd (both_ways _ refl b)
+pub closed_named : (ds : List Declaration) (query : Tree) → is_correspondence query ≡ true → has_list query ≡ true → IsClosedQuery ds query → HasNamedAtoms ds (correspondence_of query)
+closed_named ds (Node Query bs (Node h left atoms)) b l o =
+    subst (AllByRecursion (IsNamedAtom ds (correspondence_from bs left atoms)))
+    (sym (ap first_of_alternatives (list_only atoms l) ∙ numbered_atoms 1 (atoms_of atoms)))
+    (atoms_named ds bs left atoms atoms (λ x r. r) o)
+closed_named ds (Node Query bs Empty) b l o = tt
+closed_named ds query b l o = absurd (both_ways _ refl b)

@@ -7,8 +7,8 @@ use Rattle.cv_syntax_trees.specs.Tree.{Tree, Empty, Node}
 use Rattle.cv_meaning.specs.Interpretation.{Setting}
 use Rattle.cv_meaning.specs.Memory.{Indices, Store, tuple}
 use Rattle.cv_meaning.specs.Terms.{bit, found_in, value, values}
-use Rattle.cv_derive_rules.specs.Given.{with_given}
-use Rattle.cv_derive_rules.specs.Lines.{lines_of, statements}
+use Rattle.cv_scene.specs.lines.Given.{with_given}
+use Rattle.cv_scene.specs.lines.Lines.{lines_of, statements}
 use Rattle.cv_derive_laws.specs.stores.Truth.{AreOver, IsTrue, is_name_of}
 use Rattle.cv_derive_laws.proofs.Substitution.{names_of}
 use Rattle.cv_query_certificates.specs.Claims.{equations, joined}

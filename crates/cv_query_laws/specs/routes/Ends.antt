@@ -9,6 +9,7 @@ use Rattle.cv_meaning.specs.Serving.{Visit}
 use Rattle.cv_meaning.specs.Terms.{value, values_here}
 use Rattle.cv_meaning.specs.Correspondences.{Atom, Correspondence, RightEvent, RightTerm}
 use Rattle.cv_meaning_laws.specs.adequacy.Broken.{AreValues, StandsAt, query_values, right_event}
+use Rattle.cv_query_certificates.specs.Alternatives.{only_atoms}
 use Rattle.cv_query_certificates.specs.EventNodes.{place_in}
 use Rattle.cv_query_laws.specs.correspondences.Happenings.{happening_at}
 use Rattle.cv_query_laws.specs.visits.Events.{event_visits}
@@ -52,7 +53,7 @@ HoldsBy g E l ρ (RightTerm m) route = value g ρ nowhere m ≡ 1
 -- events where the routes lead to, and its right terms.
 pub record IsMetBy (g : Setting) (q : Correspondence) (E : Execution) (l : Local) (left : Happened) (entry : Tree) : Type 0 where
   pub are_values : AreValues g q.others (values_here g l (witnesses_of entry))
-  pub hold : (n : ℕ) (atom : Atom) → StandsAt q.atoms n atom →
+  pub hold : (n : ℕ) (atom : Atom) → StandsAt (only_atoms q) n atom →
       HoldsBy g E l (query_values q left (values_here g l (witnesses_of entry))) atom (item_at (routes_of entry) n)
 
 -- The event was recorded at a position whose visit is of this place, at the first ones of these indices.

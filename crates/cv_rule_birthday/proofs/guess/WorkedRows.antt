@@ -8,7 +8,7 @@ use Rattle.cv_scope_rules.specs.Made.{is_bound}
 use Rattle.cv_scene.specs.Scenes.{names}
 use Rattle.cv_meaning.specs.Queries.{queries_in}
 use Rattle.cv_steps.specs.Rewriting.{has_term_at}
-use Rattle.cv_costs.specs.Large.{first_other_site}
+use Rattle.cv_scene.specs.Large.{first_other_site}
 use Rattle.cv_rule_birthday.specs.guess.Guessing.{falsified, first_read}
 use Rattle.cv_rule_birthday.specs.guess.Worked.{accepted, judged, refused}
 

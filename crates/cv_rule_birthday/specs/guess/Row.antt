@@ -11,7 +11,7 @@ use Rattle.cv_path.specs.Copies.{copies_at}
 use Rattle.cv_scene.specs.Scenes.{Scene, is_queried}
 use Rattle.cv_costs.specs.Collisions.{declared_parameters}
 use Rattle.cv_costs.specs.Factors.{factors_of}
-use Rattle.cv_costs.specs.Large.{first_other_site, is_large}
+use Rattle.cv_scene.specs.Large.{first_other_site, is_large}
 use Rattle.cv_steps.specs.Rows.{unless, unless_at}
 use Rattle.cv_steps.specs.Steps.{Collisions, Cost, Fails, Leads, Row, Step}
 use Rattle.cv_rule_birthday.specs.Conditions.{stands_at_places}

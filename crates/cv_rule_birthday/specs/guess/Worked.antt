@@ -7,7 +7,7 @@ use Rattle.cv_syntax_trees.specs.Builders.{branch, event, find, input, leaf, out
 use Rattle.cv_syntax_trees.specs.Declarations.{Declaration, Named, Query}
 use Rattle.cv_syntax_trees.specs.Tree.{Tree, Empty, Node, chain, lone}
 use Rattle.cv_meaning_runs.specs.Replacement.{if_tree}
-use Rattle.cv_derive_rules.specs.Truths.{no}
+use Rattle.cv_scene.specs.lines.Truths.{no}
 use Rattle.cv_scene.specs.Scenes.{Scene}
 use Rattle.cv_steps.specs.Steps.{Fails, Leads, Row}
 use Rattle.cv_rule_birthday.specs.Conditions.{stands_at_places}

@@ -3,7 +3,7 @@ ghost use Rattle.cv_pool.specs.Nodes.{ChildBelow};
 ghost use Rattle.cv_syntax_trees.specs.Tree as tree;
 ghost use Rattle.cv_syntax.specs.PoolTrees.{tree_at};
 ghost use Rattle.cv_syntax.specs.limits.Limits.{nodes_of};
-ghost use Rattle.cv_derive_rules.specs.Truths.{no};
+ghost use Rattle.cv_scene.specs.lines.Truths.{no};
 ghost use Rattle.cv_edit_places.specs.Parts.{AreLive, made_by, stack_of};
 ghost use Rattle.cv_scene_view.specs.phrases.Phrases.{phrase_of};
 ghost use Rattle.cv_rule_birthday.specs.Comparing.{is_one_of};

@@ -4,7 +4,7 @@ use Rattle.std.proofs.lemmas.Bool.{both_ways, and_parts}
 use Rattle.cv_syntax_trees.specs.declared.head.Head.TheVariants.{Leaf, Read}
 use Rattle.cv_syntax_trees.specs.Tree.{Tree, Empty, Node, first_place, second_place}
 use Rattle.cv_lists.specs.Options.{first_of}
-use Rattle.cv_derive_rules.specs.Truths.{no}
+use Rattle.cv_scene.specs.lines.Truths.{no}
 use Rattle.cv_meaning.specs.Still.{head_is_still, is_still}
 use Rattle.cv_scope_rules.specs.Phrases.{Phrase, Nil, Term}
 use Rattle.cv_steps.specs.Rewriting.{parts_of}

@@ -68,7 +68,7 @@ use Rattle.cv_rule_fresh.proofs.Keeping.{nothing_apart, product_copies}
 use Rattle.cv_rule_fresh.proofs.Listed.{bounds, cells_sized, indices_within}
 use Rattle.cv_lists.proofs.Each.{AllByRecursion_both, AllByRecursion_flat_map}
 use Rattle.cv_lists.proofs.Tests.{or_false}
-use Rattle.cv_costs.specs.Large.{is_large, is_large_by, first_other_site}
+use Rattle.cv_scene.specs.Large.{is_large, is_large_by, first_other_site}
 use Rattle.cv_rule_birthday.specs.Comparing.{is_one_of as among}
 use Rattle.cv_rule_birthday.specs.guess.Guessing.{first_other_read, without_guesses}
 use Rattle.cv_rule_birthday.specs.guess.Row.{cost_at, guess_row, one_for_guesses, one_in, parameters_of}

@@ -8,7 +8,7 @@ use Rattle.cv_directory_sorts.specs.declared.sort.Sort.TheVariants.{BelowParamet
 use Rattle.cv_scene.specs.Scenes.{Scene, is_queried}
 use Rattle.cv_steps.specs.Steps.{Cost, Leads}
 use Rattle.cv_steps.proofs.Rows.{leads_same, unless_at_leads, unless_leads}
-use Rattle.cv_costs.specs.Large.{first_other_site, is_large}
+use Rattle.cv_scene.specs.Large.{first_other_site, is_large}
 use Rattle.cv_rule_birthday.specs.guess.Guessing.{compares_at, first_other_read, first_outside, without_guesses}
 use Rattle.cv_rule_birthday.specs.guess.Row.{cost_at, guess_row, row_by_site, row_by_sort}
 

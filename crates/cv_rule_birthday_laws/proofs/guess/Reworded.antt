@@ -6,7 +6,7 @@ use Rattle.cv_syntax_trees.specs.declared.head.Head.{Head}
 use Rattle.cv_syntax_trees.specs.declared.head.Head.TheVariants.{Stop, Yield, Par, Repl, In, Out, Event, New, Let, If, Find, Branch, Cons, Binder}
 use Rattle.cv_syntax.specs.Layouts.{IsSyntax}
 use Rattle.cv_syntax_trees.specs.Tree.{Tree, Empty, Node, second, first_place, second_place}
-use Rattle.cv_derive_rules.specs.Truths.{no}
+use Rattle.cv_scene.specs.lines.Truths.{no}
 use Rattle.cv_meaning.specs.Binders.{binder_count, bound_to, fits, widest_binder}
 use Rattle.cv_meaning.specs.Candidates.{Candidate, are_assigned, candidate, candidates, candidates_at, is_assigned, most_indices, tuples_up_to, widest}
 use Rattle.cv_meaning.specs.Interpretation.{Setting}
@@ -34,7 +34,7 @@ use Rattle.cv_steps.proofs.Flat.{guarded_of, guards_of, terms_still}
 use Rattle.cv_lists.proofs.Each.{AllByRecursion_append, AllByRecursion_left, AllByRecursion_right}
 use Rattle.cv_lists.proofs.Tests.{differ_comm}
 use Rattle.cv_costs.proofs.quiet.Shapes.{left_false}
-use Rattle.cv_costs.specs.Large.{chooses, first_other_site}
+use Rattle.cv_scene.specs.Large.{chooses, first_other_site}
 use Rattle.cv_rule_birthday.specs.guess.Guessing.{Places, falsified, is_equality, is_guess, reads}
 use Rattle.cv_rule_birthday_laws.specs.guess.Spots.{Misses, binders_below, construct_below, spot_of, spots, spots_of}
 use Rattle.cv_rule_birthday_laws.proofs.guess.Falsified.{kept_bare, nothing_first, still_falsified}

@@ -6,7 +6,7 @@ use Rattle.cv_lists.specs.Options.{first_of}
 use Rattle.cv_syntax_trees.specs.declared.head.Head.{Head}
 use Rattle.cv_syntax_trees.specs.declared.head.Head.TheVariants.{In, New, Branch, Leaf, Read, Apply, Eq, And, Or, Not, Yes, No, Cons, Key, Call}
 use Rattle.cv_syntax_trees.specs.Tree.{Tree, Empty, Node, first, second, first_place, second_place, head_reads_only, reads_only}
-use Rattle.cv_derive_rules.specs.Truths.{no}
+use Rattle.cv_scene.specs.lines.Truths.{no}
 use Rattle.cv_meaning_chances.specs.unread.Dropping.{reads_none}
 use Rattle.cv_scope_rules.specs.Context.{first_position, replications_below, second_position}
 use Rattle.cv_scope_rules.specs.Made.{is_bound, made_by}
@@ -23,7 +23,7 @@ use Rattle.cv_steps.proofs.Places.{bare_is_no_term, is_bare, parts_bare}
 use Rattle.cv_lists.proofs.Each.{AllByRecursion_append}
 use Rattle.cv_lists.proofs.Tests.{and_false, and_true}
 use Rattle.cv_costs.proofs.quiet.Shapes.{left_false}
-use Rattle.cv_costs.specs.Large.{chooses, first_other_site}
+use Rattle.cv_scene.specs.Large.{chooses, first_other_site}
 use Rattle.cv_rule_birthday.specs.guess.Guessing.{Places, falsified, first_read, has_value, is_equality, is_guess, reads}
 use Rattle.cv_rule_birthday_laws.specs.guess.Spots.{Spot, binders_below, construct_below, spot_of, spots, spots_of}
 use Rattle.cv_rule_birthday_laws.proofs.guess.Falsified.{kept_bare, kept_read, nothing_first}

@@ -2,13 +2,13 @@
 -- be false. Blanchet, TDSC 2008, bounds by collisions how often it isn't; the conditions and their order are this profile's own.
 use Rattle.std.specs.Prelude.{ℕ, nat_lt, if◌then◌else◌, Option, Some, None}
 use Rattle.cv_syntax_trees.specs.Tree.{Tree}
-use Rattle.cv_derive_rules.specs.Truths.{no}
+use Rattle.cv_scene.specs.lines.Truths.{no}
 use Rattle.cv_scene.specs.Scenes.{Scene, has_place}
 use Rattle.cv_steps.specs.Changes.{change_at}
 use Rattle.cv_steps.specs.Rows.{unless}
 use Rattle.cv_steps.specs.Steps.{Fails, Leads, Row, Step}
 use Rattle.cv_costs.specs.Collisions.{one_for_each}
-use Rattle.cv_costs.specs.Large.{is_large}
+use Rattle.cv_scene.specs.Large.{is_large}
 use Rattle.cv_rule_fresh.specs.collisions.Choices.{Choice, choice_above, parameters_at}
 use Rattle.cv_costs.specs.names.Reach.{is_in_scope_at}
 use Rattle.cv_rule_fresh.specs.collisions.Equalities.{Equality, current_variable, equality_at}

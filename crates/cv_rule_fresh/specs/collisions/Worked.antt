@@ -13,7 +13,7 @@ use Rattle.cv_meaning.specs.Interpretation.{Interpretation}
 use Rattle.cv_meaning.specs.Runs.{Answer, Calls, Move}
 use Rattle.cv_meaning_laws.specs.Worked.{adversary, never_query, sized}
 use Rattle.cv_meaning_runs.specs.Replacement.{if_tree}
-use Rattle.cv_derive_rules.specs.Truths.{no}
+use Rattle.cv_scene.specs.lines.Truths.{no}
 use Rattle.cv_scene.specs.Scenes.{Scene}
 use Rattle.cv_steps.specs.Steps.{Cost, Fails, Leads, Row}
 use Rattle.cv_costs.specs.Collisions.{one_for_each}

@@ -1,7 +1,6 @@
 use Rattle.std.proofs.Common.{◌≡◌, Option, Some, None, refl}
 use Rattle.cv_syntax.specs.faults.Walk.{first_fault}
 use Rattle.cv_syntax_trees.specs.Tree.{size, same_tree, reads_only}
-use Rattle.cv_meaning.specs.Direct.{argument, is_substituted, is_instance, plainly_covered}
 use Rattle.cv_meaning.specs.Memory.{put}
 use Rattle.cv_meaning.specs.Terms.{value}
 use Rattle.cv_meaning.specs.Binders.{bound_to}
@@ -28,10 +27,6 @@ unscoped : IsScoped constants assigned_again → ⊥
 unfolding first_fault sites_from same_tree size first_site bound_sort count is_untyped_in
 unscoped s = some_none _ (none_where_scoped (names_of constants assigned_again) at_root assigned_again s)
 
-pub returns-clause-shape : goal.returns-clause-shape
-unfolding plainly_covered is_substituted is_instance argument same_tree reads_only
-returns-clause-shape c = record { inj = refl; others = refl; atoms = refl; covered = refl }
-
 pub returns-clause-unscoped : goal.returns-clause-unscoped
 returns-clause-unscoped c = unscoped
 
@@ -46,10 +41,6 @@ returns-clause-unbound c = refl
 pub returns-clause-broken : goal.returns-clause-broken
 unfolding holds_on broken assignments run run_from moved taken serve step inputs_of bound_to value put reads_only
 returns-clause-broken c = refl
-
-pub returns-clause-captured_shape : goal.returns-clause-captured_shape
-unfolding plainly_covered is_substituted is_instance argument same_tree reads_only
-returns-clause-captured_shape c = record { inj = refl; others = refl; atoms = refl; covered = refl }
 
 pub returns-clause-captured_scope : goal.returns-clause-captured_scope
 unfolding first_fault sites_from same_tree size first_site bound_sort count is_untyped_in

@@ -1,9 +1,7 @@
 use Rattle.std.proofs.Common.{◌≡◌, false, [], ◌∷◌, refl}
 use Rattle.std.proofs.lemmas.Bool.{both_ways}
 use Rattle.cv_syntax.specs.faults.Walk.{first_fault}
-use Rattle.cv_syntax_trees.specs.Tree.{size, same_tree, reads_only, binds}
-use Rattle.cv_meaning.specs.Direct.{argument, is_substituted, is_instance, is_unbound, plainly_covered}
-use Rattle.cv_meaning.specs.Interpretation.{setting_of}
+use Rattle.cv_syntax_trees.specs.Tree.{size, same_tree}
 use Rattle.cv_directory_sorts.specs.Sites.{first_site, bound_sort}
 use Rattle.cv_directory_sorts.specs.Counting.{count}
 use Rattle.cv_scope_rules.specs.Sites.{sites_from}
@@ -12,27 +10,15 @@ use Rattle.cv_scope_rules.specs.Scope.{is_untyped_in, names_of}
 use Rattle.cv_scope_rules.specs.Worked.{cell_found, constants, finds}
 use Rattle.cv_scope_rules.proofs.First.{scoped_where_none}
 use Rattle.cv_scope_rules.specs.Phrases.{Inputs, is_phrase, is_oracle_phrase, binds_none, IsWellFormed}
-use Rattle.cv_scope_runs.specs.Worked.{begun_before, begun_query, keyed, sessions, told_before, told_query, told}
-use Rattle.cv_meaning.specs.Direct.{IsPlainlyDirect}
-use Rattle.cv_scope_runs.proofs.PlainlyDirect.{plainly_at_most}
+use Rattle.cv_scope_runs.specs.Worked.{keyed, sessions, told}
 use Rattle.cv_scope_runs.proofs.worked_games.Goals as goal
 
 well : IsWellFormed [] sessions
 unfolding first_fault sites_from same_tree size first_site bound_sort count is_untyped_in is_phrase binds_none
 well = record { scoped = scoped_where_none (names_of [] sessions) at_root sessions refl; phrase = refl; constants = refl }
 
-direct : IsPlainlyDirect begun_before sessions
-unfolding plainly_covered is_substituted is_instance argument same_tree reads_only
-direct = record { inj = refl; others = refl; atoms = refl; covered = refl }
-
 pub returns-clause-sessions : goal.returns-clause-sessions
 returns-clause-sessions c = well
-
-pub returns-clause-shape : goal.returns-clause-shape
-returns-clause-shape c = direct
-
-pub returns-clause-never : goal.returns-clause-never
-returns-clause-never c = λ i a. plainly_at_most [] (setting_of [] i) begun_query a sessions refl well direct
 
 pub returns-clause-found : goal.returns-clause-found
 unfolding first_fault sites_from same_tree size first_site bound_sort count is_untyped_in is_phrase binds_none
@@ -41,10 +27,6 @@ returns-clause-found c = let game = finds (cell_found ∷ []) in record { scoped
 told_well : IsWellFormed constants told
 unfolding first_fault sites_from same_tree size first_site bound_sort count is_untyped_in is_phrase binds_none
 told_well = record { scoped = scoped_where_none (names_of constants told) at_root told refl; phrase = refl; constants = refl }
-
-told_direct : IsPlainlyDirect told_before told
-unfolding plainly_covered is_substituted is_instance is_unbound argument same_tree reads_only
-told_direct = record { inj = refl; others = refl; atoms = refl; covered = refl }
 
 pub returns-clause-context : goal.returns-clause-context
 unfolding first_fault sites_from same_tree size first_site bound_sort count is_untyped_in is_oracle_phrase binds_none
@@ -59,9 +41,3 @@ returns-clause-no_game c = λ w. both_ways (is_phrase Inputs keyed) no_game w.ph
 
 pub returns-clause-terms : goal.returns-clause-terms
 returns-clause-terms c = told_well
-
-pub returns-clause-terms_shape : goal.returns-clause-terms_shape
-returns-clause-terms_shape c = told_direct
-
-pub returns-clause-terms_never : goal.returns-clause-terms_never
-returns-clause-terms_never c = λ i a. plainly_at_most constants (setting_of constants i) told_query a told refl told_well told_direct

@@ -15,8 +15,8 @@ use Rattle.cv_parse_notation.proofs.Sorts.{begins, read_is_spelled, shorter, spe
 use Rattle.cv_parse_notation.proofs.Sound.{same_found, sound}
 use Rattle.cv_parse_grammar.specs.declared.role.Role.{Role}
 use Rattle.cv_parse_grammar.specs.Files.{levels}
+use Rattle.cv_parse_grammar.specs.Marks.{marked_rule}
 use Rattle.cv_parse_grammar.specs.Phrases.{Sort}
-use Rattle.cv_parse_grammar.specs.Rules.{rule}
 use Rattle.cv_parse_tables.specs.Table.{Nowhere, OfFiles, Row, TableSort, carried, table_heads, table_rule}
 use Rattle.cv_script.specs.rows.Rows.{script_row, script_rows}
 use Rattle.cv_script.specs.reader.Scripts.{begins_step, to_end, items, of_read, read_row, with_room, script_of, stop_at}
@@ -61,7 +61,7 @@ script_deep = refl
 pub closed : (s : TableSort) → is_deep s ≡ true → sorts_pass is_deep (table_rule script_rows s) ≡ true
 unfolding sorts_pass
 closed (Row r) e = subst (λ m. sorts_pass is_deep (table_rule script_rows (Row m)) ≡ true) (sym (eqb-true r line_row e)) line_deep
-closed (OfFiles s) e = carried_deep (rule s)
+closed (OfFiles s) e = carried_deep (marked_rule s)
 closed Nowhere e = refl
 
 pub agree : (s : TableSort) → is_deep s ≡ true → table_rule script_rows s ≡ deep_rule s

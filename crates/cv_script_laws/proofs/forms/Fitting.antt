@@ -6,8 +6,8 @@ use Rattle.cv_parse_notation.specs.Form.{Form, deeper}
 use Rattle.cv_parse_notation.specs.Fits.{fits, fitting}
 use Rattle.cv_parse_notation.specs.Spells.{Kind, is_mark, is_steady}
 use Rattle.cv_parse_grammar.specs.declared.role.Role.{Role}
+use Rattle.cv_parse_grammar.specs.Marks.{marked_tails}
 use Rattle.cv_parse_grammar.specs.Phrases.{Sort, Term, Conjunction, Primary, Unequal, Arguments, Subscript, Parentheses, Inputs, Input, Output, Pattern, Sending, Payload, Variables, Indices, ProcessBranch, Cells, OneCell, Body, BodyBranch, LeftFunction, RightFunction, RightRest, Braces}
-use Rattle.cv_parse_grammar.specs.Rules.{tails}
 use Rattle.cv_parse_tables.specs.Table.{Nowhere, OfFiles, Row, TableSort, table_heads, table_rule}
 use Rattle.cv_script.specs.rows.Rows.{script_rows}
 use Rattle.cv_script_laws.specs.forms.Scripts.{script_form}
@@ -32,7 +32,7 @@ deep_rule s = when_deep (is_deep s) s
 -- the tokens behind such a phrase that could belong to it; a line ends before a semicolon
 abbrev pub deep_tails : TableSort → Kind → Bool
 deep_tails (Row r) k = not (is_mark mark.Semicolon k)
-deep_tails (OfFiles s) k = tails s k
+deep_tails (OfFiles s) k = marked_tails s k
 deep_tails Nowhere k = false
 
 abbrev Fit : TableSort → Type 0

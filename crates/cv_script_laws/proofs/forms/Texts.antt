@@ -8,19 +8,17 @@ use Rattle.cv_parse_notation.specs.Spells.{IsSort}
 use Rattle.cv_parse_notation.specs.Whole.{SpellsWith}
 use Rattle.cv_parse_grammar.specs.Files.{levels}
 use Rattle.cv_parse_grammar.specs.Names.{Uses}
+use Rattle.cv_parse_grammar.specs.Marks.{marked_rule}
 use Rattle.cv_parse_grammar.specs.Phrases.{Sort}
-use Rattle.cv_parse_grammar.specs.Phrases as sort
-use Rattle.cv_parse_grammar.specs.Rules.{rule}
 use Rattle.cv_parse_grammar.specs.declared.role.Role.{Role}
-use Rattle.cv_parse_laws.specs.Shapes.{IsFree, IsOfSort}
 use Rattle.cv_parse_grammar.specs.yields.Yields.{IfThere, Yields}
-use Rattle.cv_parse_laws.proofs.Rows.{rows as rows_of_files}
 use Rattle.cv_parse_grammar.proofs.yields.Yielding.{forms_tell, if_there}
 use Rattle.cv_script_laws.proofs.forms.Fitting.{deep_rule}
+use Rattle.cv_script_laws.proofs.forms.NodeRows.{NodeOfSort, of_a_cell, of_a_term, rows as node_rows}
 use Rattle.cv_parse_tables.specs.declared.piece.Outer.{Outer}
 use Rattle.cv_parse_tables.specs.declared.piece.Outer.TheVariants as outer
 use Rattle.cv_parse_tables.specs.Table.{Nowhere, OfFiles, Row, TableSort, carried, outer_form, table_heads}
-use Rattle.cv_scope_rules.specs.Phrases.{Term, OneCell, is_phrase}
+use Rattle.cv_print_bytes.specs.terminals.Written.{has_items}
 use Rattle.cv_script.specs.rows.Rows.{script_rows}
 use Rattle.cv_script.specs.Views.{tree_in}
 
@@ -43,18 +41,18 @@ uncarried W P (made v f) a y = (y.0, uncarried W P f y.0 y.1, y.2)
 uncarried W P (level f) a y = uncarried W P f a y
 uncarried W P (deeper s) a y = y
 
--- no name is barred
-abbrev none : ℕ → Bool
-none x = false
+-- nothing is asked of names
+abbrev Any : Role → ℕ → Type 0
+Any r x = Unit {0}
 
 abbrev Shape : TableSort → Tree → Type 0
 Shape (Row r) t = Unit {0}
-Shape (OfFiles s) t = IsOfSort none s t
+Shape (OfFiles s) t = NodeOfSort s t
 Shape Nowhere t = Unit {0}
 
-shapes : (s : TableSort) (t : Tree) → Yields (IsFree none) Shape (deep_rule s) t → Shape s t
+shapes : (s : TableSort) (t : Tree) → Yields Any Shape (deep_rule s) t → Shape s t
 shapes (Row r) t y = tt
-shapes (OfFiles s) t y = rows_of_files none s t (uncarried (IsFree none) Shape (rule s) t y)
+shapes (OfFiles s) t y = node_rows Any s t (uncarried Any Shape (marked_rule s) t y)
 shapes Nowhere t y = tt
 
 -- a term or a cell is a node
@@ -63,28 +61,22 @@ IsNode outer.Terms t = Unit {0}
 IsNode outer.InnerSubscript t = Unit {0}
 IsNode p t = tree_in t ≡ Some t
 
-term_is_node : (t : Tree) → is_phrase Term t ≡ true → tree_in t ≡ Some t
-unfolding is_phrase
-term_is_node Empty e = absurd (cc)
-term_is_node (Node h a b) e = refl
+is_there : (t : Tree) → has_items t ≡ true → tree_in t ≡ Some t
+is_there Empty e = absurd (cc)
+is_there (Node h a b) e = refl
 
-cell_is_node : (t : Tree) → is_phrase OneCell t ≡ true → tree_in t ≡ Some t
-unfolding is_phrase
-cell_is_node Empty e = absurd (cc)
-cell_is_node (Node h a b) e = refl
-
-are_nodes : (p : Outer) (t : Tree) → Yields (IsFree none) (IsOfSort none) (outer_form p) t → IsNode p t
-are_nodes outer.Term t y = term_is_node t (rows_of_files none sort.Term t y).phrase
+are_nodes : (p : Outer) (t : Tree) → Yields Any NodeOfSort (outer_form p) t → IsNode p t
+are_nodes outer.Term t y = is_there t (of_a_term Any t y)
 are_nodes outer.Terms t y = tt
-are_nodes outer.InnerTerm t y = term_is_node t y.phrase
+are_nodes outer.InnerTerm t y = is_there t y
 are_nodes outer.InnerSubscript t y = tt
-are_nodes outer.Cell t y = cell_is_node t (rows_of_files none sort.OneCell t y).phrase
-are_nodes outer.InnerCell t y = cell_is_node t y.phrase
+are_nodes outer.Cell t y = is_there t (of_a_cell Any t y)
+are_nodes outer.InnerCell t y = is_there t y
 
 pub text_is_node : (p : Outer) (ts : List Sign) (t : Tree) (us : Uses) (rest : List Sign) → SpellsWith (table_heads script_rows) deep_rule (carried (outer_form p)) levels ts t us rest → IsNode p t
 text_is_node p ts t us rest d =
-    are_nodes p t (uncarried (IsFree none) Shape (outer_form p) t (forms_tell (IsFree none) Shape (table_heads script_rows) deep_rule shapes (carried (outer_form p)) levels ts t us rest d
-    (AllByRecursion_always (λ u. IsFree none u.role u.name) (λ u e. refl) us)))
+    are_nodes p t (uncarried Any Shape (outer_form p) t (forms_tell Any Shape (table_heads script_rows) deep_rule shapes (carried (outer_form p)) levels ts t us rest d
+    (AllByRecursion_always (λ u. Any u.role u.name) (λ u. tt) us)))
 
 -- nothing is spelled nowhere
 pub nowhere : (n : ℕ) (ts : List Sign) (t : Tree) (us : Uses) (rest : List Sign) → IsSort (table_heads script_rows) deep_rule n Nowhere ts t us rest → ⊥

@@ -1,4 +1,5 @@
--- What a phrase of files spells in a script it spells in a file, and is known and written there.
+-- What a phrase of files spells in a script it spells by the rows of files, in which names may have marks, and is known and
+-- written there.
 use Rattle.std.proofs.Common.{◌≡◌, ℕ, zero, suc, Bool, true, false, nat_lt, ◌&&◌, List, [], ◌∷◌, Option, Some, None, inl, inr, refl, sym, ◌∙◌}
 use Rattle.std.proofs.lemmas.Bool.{and_from, and_parts}
 use Rattle.std.specs.List.{AllByRecursion}
@@ -11,26 +12,24 @@ use Rattle.cv_parse_notation.specs.Form.{sign, script_word, word, number, nought
 use Rattle.cv_parse_notation.specs.Spells.{Each, IsSort, Kind, Perhaps, Relation, Spells, next_is, no_sort, starts}
 use Rattle.cv_parse_notation.specs.Whole.{SpellsWith}
 use Rattle.cv_parse_grammar.specs.Names.{Uses}
+use Rattle.cv_parse_grammar.specs.Marks.{marked_rule, plain, plain_cell, plain_head}
 use Rattle.cv_parse_grammar.specs.Phrases.{Phrase, Sort}
 use Rattle.cv_parse_grammar.specs.Phrases as sort
-use Rattle.cv_parse_grammar.specs.Rules.{heads, rule}
+use Rattle.cv_parse_grammar.specs.Rules.{heads}
 use Rattle.cv_parse_grammar.specs.Terms.{arguments, terms}
 use Rattle.cv_parse_grammar.specs.declared.role.Role.{Role}
-use Rattle.cv_parse_laws.specs.Shapes.{IsFree, IsOfSort}
-use Rattle.cv_parse_laws.specs.Words.{AreNamed, IsNamed, WordsOfSort}
+use Rattle.cv_parse_laws.specs.Words.{AreNamed, IsNamed}
 use Rattle.cv_parse_grammar.specs.yields.Yields.{Yields}
-use Rattle.cv_parse_laws.proofs.Rows.{rows as shape_rows}
 use Rattle.cv_parse_laws.proofs.Tokens as tokens
-use Rattle.cv_parse_laws.proofs.WordRows.{rows as word_rows}
-use Rattle.cv_parse_grammar.proofs.yields.Yielding as yielding
 use Rattle.cv_script_laws.proofs.forms.Fitting.{deep_rule}
+use Rattle.cv_script_laws.proofs.printing.WrittenRows.{Names, WrittenOfSort, of_some_terms, rows as written_rows}
 use Rattle.cv_parse_tables.specs.declared.piece.Outer.{Outer}
 use Rattle.cv_parse_tables.specs.declared.piece.Outer.TheVariants as outer
 use Rattle.cv_parse_tables.specs.Table.{OfFiles, TableSort, carried, outer_form, table_heads}
 use Rattle.cv_parse_tables.proofs.Carrying.{carried_starts}
 use Rattle.cv_print_bytes.specs.Known.{head_is_named, is_named}
 use Rattle.cv_print_bytes.proofs.numbers.Numbering.{AreSmall, Holds, IsSmall, forms_tell}
-use Rattle.cv_print_bytes.proofs.numbers.NumberRows.{SmallOf, rows as number_rows}
+use Rattle.cv_print_bytes.proofs.numbers.NumberRows.{SmallOf, marked_rows as number_rows}
 use Rattle.cv_print_scripts.specs.Known.{head_is_known, is_known}
 use Rattle.cv_print_scripts.specs.steps.Trees.{IsOuter}
 use Rattle.cv_print_bytes.specs.terminals.Written.{is_name}
@@ -71,13 +70,13 @@ module _ (room : Bool) (low : TableSort → Relation Role Tree) (below : Sort �
   form_same (level f) ts a us rest d = (d.0, form_same f ts a us rest d.1)
   form_same (deeper s) ts a us rest d = same s ts a us rest d
 
-sort_same : (n : ℕ) (s : Sort) (ts : List Sign) (t : Tree) (us : Uses) (rest : List Sign) → IsSort (table_heads script_rows) deep_rule n (OfFiles s) ts t us rest → IsSort heads rule n s ts t us rest
+sort_same : (n : ℕ) (s : Sort) (ts : List Sign) (t : Tree) (us : Uses) (rest : List Sign) → IsSort (table_heads script_rows) deep_rule n (OfFiles s) ts t us rest → IsSort heads marked_rule n s ts t us rest
 unfolding IsSort
-sort_same zero s ts t us rest d = form_same false no_sort no_sort (λ s ts t us rest e. e) (rule s) ts t us rest d
-sort_same (suc n) s ts t us rest d = form_same true (IsSort (table_heads script_rows) deep_rule n) (IsSort heads rule n) (sort_same n) (rule s) ts t us rest d
+sort_same zero s ts t us rest d = form_same false no_sort no_sort (λ s ts t us rest e. e) (marked_rule s) ts t us rest d
+sort_same (suc n) s ts t us rest d = form_same true (IsSort (table_heads script_rows) deep_rule n) (IsSort heads marked_rule n) (sort_same n) (marked_rule s) ts t us rest d
 
-with_same : {A : Type 0} (f : Phrase A) (n : ℕ) (ts : List Sign) (a : A) (us : Uses) (rest : List Sign) → SpellsWith (table_heads script_rows) deep_rule (carried f) n ts a us rest → SpellsWith heads rule f n ts a us rest
-with_same f n ts a us rest d = form_same true (IsSort (table_heads script_rows) deep_rule n) (IsSort heads rule n) (sort_same n) f ts a us rest d
+with_same : {A : Type 0} (f : Phrase A) (n : ℕ) (ts : List Sign) (a : A) (us : Uses) (rest : List Sign) → SpellsWith (table_heads script_rows) deep_rule (carried f) n ts a us rest → SpellsWith heads marked_rule f n ts a us rest
+with_same f n ts a us rest d = form_same true (IsSort (table_heads script_rows) deep_rule n) (IsSort heads marked_rule n) (sort_same n) f ts a us rest d
 
 -- a phrase of a game has no number, so that it is known where it is named
 
@@ -85,22 +84,39 @@ no_number : (φ : phrase.Phrase) (v : ℕ) → parts φ (Number v) ≡ None
 no_number phrase.Nil v = refl
 no_number φ v = refl
 
-head_known : (count : ℕ) (φ : phrase.Phrase) (h : Head) (q : phrase.Phrase × phrase.Phrase) → parts φ h ≡ Some q → head_is_named count h ≡ true → head_is_known count h ≡ true
+head_known : (count : ℕ) (φ : phrase.Phrase) (h : Head) (q : phrase.Phrase × phrase.Phrase) → parts φ (plain_head true h) ≡ Some q → head_is_named count h ≡ true → head_is_known count h ≡ true
 head_known count φ (Number v) q e n = absurd (let f = sym (no_number φ v) ∙ e in cc)
 head_known count φ h q e n = n
 
-phrase_known : (count : ℕ) (φ : phrase.Phrase) (t : Tree) → is_phrase φ t ≡ true → is_named count t ≡ true → is_known count t ≡ true
-unfolding is_phrase is_named is_known
+phrase_known : (count : ℕ) (φ : phrase.Phrase) (t : Tree) → is_phrase φ (plain true t) ≡ true → is_named count t ≡ true → is_known count t ≡ true
+unfolding is_phrase is_named is_known plain
 phrase_known count φ Empty p n = refl
-phrase_known count φ (Node h a b) p n = by_parts (parts φ h) refl p (λ ψ. phrase_known count ψ a) (λ ψ. phrase_known count ψ b) where
-  by_parts : (q : Option (phrase.Phrase × phrase.Phrase)) → parts φ h ≡ q → both_are q (λ τ. is_phrase τ a) (λ ρ. is_phrase ρ b) ≡ true → ((ψ : phrase.Phrase) → is_phrase ψ a ≡ true → is_named count a ≡ true → is_known count a ≡ true) → ((ψ : phrase.Phrase) → is_phrase ψ b ≡ true → is_named count b ≡ true → is_known count b ≡ true) → (head_is_known count h && (is_known count a && is_known count b)) ≡ true
+phrase_known count φ (Node h a b) p n = by_parts (parts φ (plain_head true h)) refl p (λ ψ. phrase_known count ψ a) (λ ψ. phrase_known count ψ b) where
+  by_parts : (q : Option (phrase.Phrase × phrase.Phrase)) → parts φ (plain_head true h) ≡ q → both_are q (λ τ. is_phrase τ (plain true a)) (λ ρ. is_phrase ρ (plain true b)) ≡ true → ((ψ : phrase.Phrase) → is_phrase ψ (plain true a) ≡ true → is_named count a ≡ true → is_known count a ≡ true) → ((ψ : phrase.Phrase) → is_phrase ψ (plain true b) ≡ true → is_named count b ≡ true → is_known count b ≡ true) → (head_is_known count h && (is_known count a && is_known count b)) ≡ true
   by_parts None e p of_a of_b = absurd (cc)
   by_parts (Some q) e p of_a of_b =
-      let here = and_parts (is_phrase q.0 a) (is_phrase q.1 b) p in
+      let here = and_parts (is_phrase q.0 (plain true a)) (is_phrase q.1 (plain true b)) p in
       let named = and_parts (head_is_named count h) (is_named count a && is_named count b) n in
       let below = and_parts (is_named count a) (is_named count b) named.1 in
       and_from (head_is_known count h) (is_known count a && is_known count b) (head_known count φ h q e named.0)
       (and_from (is_known count a) (is_known count b) (of_a q.0 here.0 below.0) (of_b q.1 here.1 below.1))
+
+cell_head_known : (count : ℕ) (h : Head) (q : phrase.Phrase × phrase.Phrase) → parts phrase.OneCell h ≡ Some q → head_is_named count h ≡ true → head_is_known count h ≡ true
+cell_head_known count (Number v) q e n = absurd (let f = sym (no_number phrase.OneCell v) ∙ e in cc)
+cell_head_known count h q e n = n
+
+cell_known : (count : ℕ) (t : Tree) → is_phrase phrase.OneCell (plain_cell true t) ≡ true → is_named count t ≡ true → is_known count t ≡ true
+unfolding is_phrase is_named is_known
+cell_known count Empty p n = refl
+cell_known count (Node h a b) p n = by_parts (parts phrase.OneCell h) refl p where
+  by_parts : (q : Option (phrase.Phrase × phrase.Phrase)) → parts phrase.OneCell h ≡ q → both_are q (λ τ. is_phrase τ (plain true a)) (λ ρ. is_phrase ρ (plain true b)) ≡ true → (head_is_known count h && (is_known count a && is_known count b)) ≡ true
+  by_parts None e p = absurd (cc)
+  by_parts (Some q) e p =
+      let here = and_parts (is_phrase q.0 (plain true a)) (is_phrase q.1 (plain true b)) p in
+      let named = and_parts (head_is_named count h) (is_named count a && is_named count b) n in
+      let below = and_parts (is_named count a) (is_named count b) named.1 in
+      and_from (head_is_known count h) (is_known count a && is_known count b) (cell_head_known count h q e named.0)
+      (and_from (is_known count a) (is_known count b) (phrase_known count q.0 a here.0 below.0) (phrase_known count q.1 b here.1 below.1))
 
 -- the tree is known, and is what a phrase of files is
 
@@ -123,14 +139,7 @@ good_of : (count : ℕ) (ts : List Sign) → AreNamed ts → AreSmall count ts �
 good_of count [] v w = tt
 good_of count (s ∷ ts) v w = ((v.0, w.0), good_of count ts v.1 w.1)
 
-abbrev none : ℕ → Bool
-none x = false
-
 -- terms stand between the parentheses of arguments
-
-yields_bracket : (W : Role → ℕ → Type 0) (P : Sort → Tree → Type 0) (t : Tree) → Yields W P terms t → Yields W P arguments t
-yields_bracket W P t y = ((tt, t), (tt, ((t, tt), (y, tt), refl)), refl)
-
 holds_bracket : (count : ℕ) (P : Sort → Tree → Type 0) (t : Tree) → Holds count P terms t → Holds count P arguments t
 holds_bracket count P t y = ((tt, t), (tt, ((t, tt), (y, tt), refl)), refl)
 
@@ -138,29 +147,24 @@ module _ (count : ℕ) (some : nat_lt 0 count ≡ true) where
   abbrev pub IsText : Outer → Tree → Type 0
   IsText p t = IsOuter p t × (is_known count t ≡ true)
 
-  abbrev Names : Role → ℕ → Type 0
-  Names r x = is_name x ≡ true
-
-  text_is : (p : Outer) (t : Tree) → Yields (IsFree none) (IsOfSort none) (outer_form p) t → Yields Names WordsOfSort (outer_form p) t → Holds count (SmallOf count some) (outer_form p) t → IsText p t
-  text_is outer.Term t x y z =
-      let s = shape_rows none sort.Term t x in
-      (record { phrase = s.phrase; words = (word_rows sort.Term t y).written }, phrase_known count phrase.Term t s.phrase (number_rows count some sort.Term t z).named)
-  text_is outer.Terms t x y z =
-      let s = shape_rows none sort.Arguments t (yields_bracket (IsFree none) (IsOfSort none) t x) in
-      let w = word_rows sort.Arguments t (yields_bracket Names WordsOfSort t y) in
-      (record { written = record { phrase = s.phrase; words = w.words.written }; some = w.items }, phrase_known count phrase.Terms t s.phrase (number_rows count some sort.Arguments t (holds_bracket count (SmallOf count some) t z)).named)
-  text_is outer.InnerTerm t x y z = (record { phrase = x.phrase; words = y.written }, phrase_known count phrase.Term t x.phrase z.named)
-  text_is outer.InnerSubscript t x y z = (record { written = record { phrase = x.phrase; words = y.words.written }; some = y.items }, phrase_known count phrase.Terms t x.phrase z.named)
-  text_is outer.Cell t x y z =
-      let s = shape_rows none sort.OneCell t x in
-      (record { phrase = s.phrase; words = (word_rows sort.OneCell t y).written }, phrase_known count phrase.OneCell t s.phrase (number_rows count some sort.OneCell t z).named)
-  text_is outer.InnerCell t x y z = (record { phrase = x.phrase; words = y.written }, phrase_known count phrase.OneCell t x.phrase z.named)
+  text_is : (p : Outer) (t : Tree) → Yields Names WrittenOfSort (outer_form p) t → Holds count (SmallOf count some) (outer_form p) t → IsText p t
+  text_is outer.Term t y z =
+      let s = written_rows sort.Term t y in
+      (s, phrase_known count phrase.Term t s.phrase (number_rows count some sort.Term t z).named)
+  text_is outer.Terms t y z =
+      let s = of_some_terms t y in
+      (s, phrase_known count phrase.Terms t s.written.phrase (number_rows count some sort.Arguments t (holds_bracket count (SmallOf count some) t z)).named)
+  text_is outer.InnerTerm t y z = (y, phrase_known count phrase.Term t y.phrase z.named)
+  text_is outer.InnerSubscript t y z = (y, phrase_known count phrase.Terms t y.written.phrase z.named)
+  text_is outer.Cell t y z =
+      let s = written_rows sort.OneCell t y in
+      (s, cell_known count t s.phrase (number_rows count some sort.OneCell t z).named)
+  text_is outer.InnerCell t y z = (y, cell_known count t y.phrase z.named)
 
   -- what good tokens spell as a phrase of files
   pub text_is_known : (n : ℕ) (p : Outer) (ts : List Sign) (t : Tree) (us : Uses) (rest : List Sign) → SpellsWith (table_heads script_rows) deep_rule (carried (outer_form p)) n ts t us rest → AreGood count ts → IsText p t × AreGood count rest
   text_is_known n p ts t us rest d w =
       let e = with_same (outer_form p) n ts t us rest d in
-      let x = yielding.forms_tell (IsFree none) (IsOfSort none) heads rule (shape_rows none) (outer_form p) n ts t us rest e (AllByRecursion_always (λ u. IsFree none u.role u.name) (λ u e. refl) us) in
-      let y = tokens.forms_tell WordsOfSort heads rule word_rows (outer_form p) n ts t us rest e (named_of count ts w) in
-      let z = forms_tell count (SmallOf count some) (number_rows count some) (outer_form p) n ts t us rest e (small_of count ts w) in
-      (text_is p t x y.0 z.0, good_of count rest y.1 z.1)
+      let y = tokens.forms_tell WrittenOfSort heads marked_rule written_rows (outer_form p) n ts t us rest e (named_of count ts w) in
+      let z = forms_tell count (SmallOf count some) marked_rule (number_rows count some) (outer_form p) n ts t us rest e (small_of count ts w) in
+      (text_is p t y.0 z.0, good_of count rest y.1 z.1)

@@ -30,6 +30,7 @@ plain_known : (count : ℕ) → nat_lt 0 count ≡ true → (h : Head) → is_pl
 plain_known count some (head.Name zero) e = some
 plain_known count some (head.Name (suc x)) e = absurd (not_less (suc x) e)
 plain_known count some (head.Leaf x) e = absurd (not_less x e)
+plain_known count some (head.Primed x) e = absurd (not_less x e)
 plain_known count some (head.Read x) e = absurd (not_less x e)
 plain_known count some (head.Apply x) e = absurd (not_less x e)
 plain_known count some (head.In x) e = absurd (not_less x e)

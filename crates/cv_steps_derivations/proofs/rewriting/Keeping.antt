@@ -18,8 +18,8 @@ use Rattle.cv_scene.specs.Scenes.{Scene, part_at}
 use Rattle.cv_scene.specs.Sights.{sight_at}
 use Rattle.cv_scene.specs.Derivations.{Derives}
 use Rattle.cv_scene.specs.Terms.{is_term_at}
-use Rattle.cv_derive_rules.specs.Lines.{lines_of, statements}
-use Rattle.cv_derive_rules.specs.Targets.{equality}
+use Rattle.cv_scene.specs.lines.Lines.{lines_of, statements}
+use Rattle.cv_scene.specs.lines.Targets.{equality}
 use Rattle.cv_derive_laws.specs.stores.Holding.{HoldAt, HoldAtConditions, HoldAtVisit, IsReady}
 use Rattle.cv_derive_laws.specs.stores.Soundness.{DerivationsHold}
 use Rattle.cv_steps.specs.Steps.{Cost, Leads}

@@ -15,7 +15,7 @@ use Rattle.cv_scope_runs.proofs.FactsRuns.{well_game}
 use Rattle.cv_scope_runs.proofs.Games.{Game}
 use Rattle.cv_scope_runs.proofs.Plain.{game_context}
 use Rattle.cv_scope_runs.proofs.Standing.{Stands, root, in_first, in_second}
-use Rattle.cv_derive_rules.specs.Given.{given_for, or_node, with_given}
+use Rattle.cv_scene.specs.lines.Given.{given_for, or_node, with_given}
 use Rattle.cv_scene.specs.Scenes.{head_reads}
 use Rattle.cv_scene.specs.Sights.{at_cell}
 use Rattle.cv_steps.specs.Changes.{only, without}

@@ -13,7 +13,7 @@ use Rattle.cv_scope_rules.specs.Phrases.{Phrase, Inputs, OneCell, Term, both_are
 use Rattle.cv_scope_rules.specs.Scope.{is_variable}
 use Rattle.cv_scope_runs.proofs.Games.{Game}
 use Rattle.cv_scope_runs.proofs.Standing.{Stands, in_first, in_second}
-use Rattle.cv_derive_rules.specs.Given.{given_for, or_node, term_for, with_given}
+use Rattle.cv_scene.specs.lines.Given.{given_for, or_node, term_for, with_given}
 use Rattle.cv_scene.specs.Scenes.{head_reads}
 use Rattle.cv_scene.specs.Sights.{at_cell}
 use Rattle.cv_steps.specs.Changes.{only, without}

@@ -9,7 +9,7 @@ use Rattle.cv.proofs.Causing.{refusal_cause}
 use Rattle.cv.proofs.Endings.{refusal_answers}
 use Rattle.cv.proofs.Faithful.{run_close}
 use Rattle.cv.proofs.Proving.{report_sound}
-use Rattle.cv_accept_laws.proofs.Ready.{equivalences}
+use Rattle.cv_sequences.proofs.files.Ready.{equivalences}
 use Rattle.cv.proofs.Running.{judged_under, run_answers, run_cause, run_live, run_sound}
 use Rattle.cv.proofs.Stepping.{run_steps}
 use Rattle.cv.proofs.Taped.{advantages_of_file}

@@ -7,7 +7,7 @@ use Rattle.cv_report.specs.declared.report.Command.{Command}
 use Rattle.cv_report.specs.declared.report.Status.{Status}
 use Rattle.cv_report.specs.declared.report.Status.TheVariants as status
 use Rattle.cv_accept.specs.Accepted.{most_bytes}
-use Rattle.cv_words.specs.Words.{asked_of}
+use Rattle.cv_outside.specs.words.Words.{asked_of}
 use Rattle.cv.specs.Answers.{IsComplete}
 use Rattle.cv.specs.Causes.{ComesFrom}
 use Rattle.cv.specs.Words.{AreTold, bytes_asked, command_of}

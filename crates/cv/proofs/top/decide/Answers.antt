@@ -1,7 +1,7 @@
 use Rattle.std.proofs.Common.{ℕ, List, Option, ap, sym, ◌∙◌, subst}
 use Rattle.std.specs.Prelude.{IfSome, option_map}
-use Rattle.cv_words.specs.Forms.{Asked}
-use Rattle.cv_words.specs.Words.{asked_of}
+use Rattle.cv_outside.specs.words.Forms.{Asked}
+use Rattle.cv_outside.specs.words.Words.{asked_of}
 use Rattle.cv.specs.Answers.{IsComplete}
 use Rattle.cv.specs.Words.{asked_by, bytes_asked, command_of}
 use Rattle.cv.proofs.Endings.{memory_complete}

@@ -23,11 +23,11 @@ returns-in_err-tokens-clause-reads c = reads_on c.args.work.now.pool.limit c.arg
 pub returns-in_err-file-clause-reads : goal.returns-in_err-file-clause-reads
 returns-in_err-file-clause-reads c = reads_on c.args.work.now.pool.limit c.args.bytes.now c.file.new.work _ _ c.from_residual-in_err-file.ensures.1 (grammar_refuses c.args.work.now.pool.limit c.args.bytes.now _ _ c.in_ok-tokens.ensures.ok c.in_err-file.ensures.parses)
 
-pub read_proof-requires-clause-within : goal.read_proof-requires-clause-within
-read_proof-requires-clause-within c = block_within c.args.work.now.pool.limit _ _ (are_tokens c.args.bytes.now _ c.in_ok-tokens.ensures.ok) c.in_ok-file.ensures.parses
+pub read_block-requires-clause-within : goal.read_block-requires-clause-within
+read_block-requires-clause-within c = block_within c.args.work.now.pool.limit _ _ (are_tokens c.args.bytes.now _ c.in_ok-tokens.ensures.ok) c.in_ok-file.ensures.parses
 
-pub read_proof-requires-clause-few : goal.read_proof-requires-clause-few
-read_proof-requires-clause-few c =
+pub read_block-requires-clause-few : goal.read_block-requires-clause-few
+read_block-requires-clause-few c =
     let few = few_names c.in_ok-tokens.tokens in
     let tokens = few_tokens c.args.bytes.now c.in_ok-tokens.tokens c.in_ok-tokens.ensures.ok in
     let same = ap length c.in_ok-file.ensures.names in
@@ -40,17 +40,16 @@ returns-in_err-script-clause-reads c =
     let f = c.in_ok-file.file in
     let ts = c.in_ok-tokens.tokens in
     let old = c.file.new.work in
-    let trees = c.read_proof.new.work.pool.trees in
-    let refused = c.in_err-script.ensures.reads in
-    let block = block_as old.pool.limit limit (length old.pool.trees) ts old.names (signs_of ts).names f.script trees (Err refused.0) c.file.ensures.limit c.in_ok-file.ensures.names refused.2 in
-    reads_on limit bs c.read_proof.new.work _ _ c.from_residual-in_err-script.ensures.1
-    (subst (Refuses limit bs) (sym refused.1) (block_refuses limit (length old.pool.trees) bs ts (held_in old.pool.trees old.decls.list f) c.in_ok-tokens.ensures.ok c.in_ok-file.ensures.parses trees refused.0 c.in_ok-file.ensures.nodes block))
+    let trees = c.read_block.new.work.pool.trees in
+    let block = block_as old.pool.limit limit (length old.pool.trees) ts old.names (signs_of ts).names f.script trees (Err _) c.file.ensures.limit c.in_ok-file.ensures.names c.in_err-script.ensures.reads in
+    reads_on limit bs c.read_block.new.work _ _ c.from_residual-in_err-script.ensures.1
+    (block_refuses limit (length old.pool.trees) bs ts (held_in old.pool.trees old.decls.list f) c.in_ok-tokens.ensures.ok c.in_ok-file.ensures.parses trees _ c.in_ok-file.ensures.nodes block)
 
 pub check_certificates-requires-clause-declared : goal.check_certificates-requires-clause-declared
 check_certificates-requires-clause-declared c =
     let old = c.file.new.work in
-    let new = c.read_proof.new.work in
-    below_grown old.pool new.pool new.decls.list c.read_proof.ensures.grows (subst (λ ds. All (IsBelow (length old.pool.trees)) ds.list) (sym c.read_proof.ensures.decls) c.in_ok-file.ensures.below)
+    let new = c.read_block.new.work in
+    below_grown old.pool new.pool new.decls.list c.read_block.ensures.grows (subst (λ ds. All (IsBelow (length old.pool.trees)) ds.list) (sym c.read_block.ensures.decls) c.in_ok-file.ensures.below)
 
 pub returns-in_err-check_certificates-clause-reads : goal.returns-in_err-check_certificates-clause-reads
 returns-in_err-check_certificates-clause-reads c =
@@ -59,9 +58,9 @@ returns-in_err-check_certificates-clause-reads c =
     let ts = c.in_ok-tokens.tokens in
     let f = c.in_ok-file.file in
     let old = c.file.new.work in
-    let new = c.read_proof.new.work in
+    let new = c.read_block.new.work in
     let p = held_in new.pool.trees new.decls.list f in
-    let same = ap (λ ds. held_in new.pool.trees ds.list f) c.read_proof.ensures.decls ∙ held_grown old.pool new.pool old.decls.list f c.read_proof.ensures.grows c.in_ok-file.ensures.below c.in_ok-file.ensures.live in
+    let same = ap (λ ds. held_in new.pool.trees ds.list f) c.read_block.ensures.decls ∙ held_grown old.pool new.pool old.decls.list f c.read_block.ensures.grows c.in_ok-file.ensures.below c.in_ok-file.ensures.live in
     let parses = c.in_ok-file.ensures.parses ∙ ap Ok (sym same) in
     let block = block_as old.pool.limit limit (length old.pool.trees) ts old.names (signs_of ts).names f.script new.pool.trees (Ok c.in_ok-script.script) c.file.ensures.limit c.in_ok-file.ensures.names c.in_ok-script.ensures.reads in
     let fault = subst (λ steps. IsUnbuiltFault (asks_unbuilt p.declarations steps) c.in_err-check_certificates.field-0.0) block.2 c.in_err-check_certificates.ensures.fault in
@@ -70,32 +69,32 @@ returns-in_err-check_certificates-clause-reads c =
 pub check-requires-clause-declared : goal.check-requires-clause-declared
 check-requires-clause-declared c =
     let old = c.file.new.work in
-    let new = c.read_proof.new.work in
-    below_grown old.pool new.pool new.decls.list c.read_proof.ensures.grows (subst (λ ds. All (IsBelow (length old.pool.trees)) ds.list) (sym c.read_proof.ensures.decls) c.in_ok-file.ensures.below)
+    let new = c.read_block.new.work in
+    below_grown old.pool new.pool new.decls.list c.read_block.ensures.grows (subst (λ ds. All (IsBelow (length old.pool.trees)) ds.list) (sym c.read_block.ensures.decls) c.in_ok-file.ensures.below)
 
 pub check_game-requires-clause-declared : goal.check_game-requires-clause-declared
 check_game-requires-clause-declared c =
     let old = c.file.new.work in
-    let new = c.read_proof.new.work in
-    below_grown old.pool new.pool new.decls.list c.read_proof.ensures.grows (subst (λ ds. All (IsBelow (length old.pool.trees)) ds.list) (sym c.read_proof.ensures.decls) c.in_ok-file.ensures.below)
+    let new = c.read_block.new.work in
+    below_grown old.pool new.pool new.decls.list c.read_block.ensures.grows (subst (λ ds. All (IsBelow (length old.pool.trees)) ds.list) (sym c.read_block.ensures.decls) c.in_ok-file.ensures.below)
 
 pub check_all-requires : goal.check_all-requires
 check_all-requires c =
     let old = c.file.new.work in
-    let new = c.read_proof.new.work in
-    below_grown old.pool new.pool new.decls.list c.read_proof.ensures.grows (subst (λ ds. All (IsBelow (length old.pool.trees)) ds.list) (sym c.read_proof.ensures.decls) c.in_ok-file.ensures.below)
+    let new = c.read_block.new.work in
+    below_grown old.pool new.pool new.decls.list c.read_block.ensures.grows (subst (λ ds. All (IsBelow (length old.pool.trees)) ds.list) (sym c.read_block.ensures.decls) c.in_ok-file.ensures.below)
 
 pub check-requires-2-clause-declared : goal.check-requires-2-clause-declared
 check-requires-2-clause-declared c =
     let old = c.file.new.work in
-    let new = c.read_proof.new.work in
-    below_grown old.pool new.pool new.decls.list c.read_proof.ensures.grows (subst (λ ds. All (IsBelow (length old.pool.trees)) ds.list) (sym c.read_proof.ensures.decls) c.in_ok-file.ensures.below)
+    let new = c.read_block.new.work in
+    below_grown old.pool new.pool new.decls.list c.read_block.ensures.grows (subst (λ ds. All (IsBelow (length old.pool.trees)) ds.list) (sym c.read_block.ensures.decls) c.in_ok-file.ensures.below)
 
 pub returns-clause-below : goal.returns-clause-below
 returns-clause-below c =
     let old = c.file.new.work in
-    let new = c.read_proof.new.work in
-    below_grown old.pool new.pool new.decls.list c.read_proof.ensures.grows (subst (λ ds. All (IsBelow (length old.pool.trees)) ds.list) (sym c.read_proof.ensures.decls) c.in_ok-file.ensures.below)
+    let new = c.read_block.new.work in
+    below_grown old.pool new.pool new.decls.list c.read_block.ensures.grows (subst (λ ds. All (IsBelow (length old.pool.trees)) ds.list) (sym c.read_block.ensures.decls) c.in_ok-file.ensures.below)
 
 pub check-requires-clause-fits : goal.check-requires-clause-fits
 check-requires-clause-fits c =
@@ -104,9 +103,9 @@ check-requires-clause-fits c =
     let ts = c.in_ok-tokens.tokens in
     let f = c.in_ok-file.file in
     let old = c.file.new.work in
-    let new = c.read_proof.new.work in
+    let new = c.read_block.new.work in
     let p = held_in new.pool.trees new.decls.list f in
-    let same = ap (λ ds. held_in new.pool.trees ds.list f) c.read_proof.ensures.decls ∙ held_grown old.pool new.pool old.decls.list f c.read_proof.ensures.grows c.in_ok-file.ensures.below c.in_ok-file.ensures.live in
+    let same = ap (λ ds. held_in new.pool.trees ds.list f) c.read_block.ensures.decls ∙ held_grown old.pool new.pool old.decls.list f c.read_block.ensures.grows c.in_ok-file.ensures.below c.in_ok-file.ensures.live in
     let parses = c.in_ok-file.ensures.parses ∙ ap Ok (sym same) in
     few_terms limit (signs_of ts).signs p c.requires.limit parses
 
@@ -117,9 +116,9 @@ check_game-requires-clause-fits c =
     let ts = c.in_ok-tokens.tokens in
     let f = c.in_ok-file.file in
     let old = c.file.new.work in
-    let new = c.read_proof.new.work in
+    let new = c.read_block.new.work in
     let p = held_in new.pool.trees new.decls.list f in
-    let same = ap (λ ds. held_in new.pool.trees ds.list f) c.read_proof.ensures.decls ∙ held_grown old.pool new.pool old.decls.list f c.read_proof.ensures.grows c.in_ok-file.ensures.below c.in_ok-file.ensures.live in
+    let same = ap (λ ds. held_in new.pool.trees ds.list f) c.read_block.ensures.decls ∙ held_grown old.pool new.pool old.decls.list f c.read_block.ensures.grows c.in_ok-file.ensures.below c.in_ok-file.ensures.live in
     let parses = c.in_ok-file.ensures.parses ∙ ap Ok (sym same) in
     let few = few_terms limit (signs_of ts).signs p c.requires.limit parses in
     omega (arith, few, c.in_ok-nodes.ensures.place)
@@ -131,9 +130,9 @@ returns-in_err-nodes-clause-reads c =
     let ts = c.in_ok-tokens.tokens in
     let f = c.in_ok-file.file in
     let old = c.file.new.work in
-    let new = c.read_proof.new.work in
+    let new = c.read_block.new.work in
     let p = held_in new.pool.trees new.decls.list f in
-    let same = ap (λ ds. held_in new.pool.trees ds.list f) c.read_proof.ensures.decls ∙ held_grown old.pool new.pool old.decls.list f c.read_proof.ensures.grows c.in_ok-file.ensures.below c.in_ok-file.ensures.live in
+    let same = ap (λ ds. held_in new.pool.trees ds.list f) c.read_block.ensures.decls ∙ held_grown old.pool new.pool old.decls.list f c.read_block.ensures.grows c.in_ok-file.ensures.below c.in_ok-file.ensures.live in
     let parses = c.in_ok-file.ensures.parses ∙ ap Ok (sym same) in
     let block = block_as old.pool.limit limit (length old.pool.trees) ts old.names (signs_of ts).names f.script new.pool.trees (Ok c.in_ok-script.script) c.file.ensures.limit c.in_ok-file.ensures.names c.in_ok-script.ensures.reads in
     let content = content_of ts p block.0 in
@@ -147,9 +146,9 @@ returns-in_err-directory-2-clause-reads c =
     let ts = c.in_ok-tokens.tokens in
     let f = c.in_ok-file.file in
     let old = c.file.new.work in
-    let new = c.read_proof.new.work in
+    let new = c.read_block.new.work in
     let p = held_in new.pool.trees new.decls.list f in
-    let same = ap (λ ds. held_in new.pool.trees ds.list f) c.read_proof.ensures.decls ∙ held_grown old.pool new.pool old.decls.list f c.read_proof.ensures.grows c.in_ok-file.ensures.below c.in_ok-file.ensures.live in
+    let same = ap (λ ds. held_in new.pool.trees ds.list f) c.read_block.ensures.decls ∙ held_grown old.pool new.pool old.decls.list f c.read_block.ensures.grows c.in_ok-file.ensures.below c.in_ok-file.ensures.live in
     let parses = c.in_ok-file.ensures.parses ∙ ap Ok (sym same) in
     let block = block_as old.pool.limit limit (length old.pool.trees) ts old.names (signs_of ts).names f.script new.pool.trees (Ok c.in_ok-script.script) c.file.ensures.limit c.in_ok-file.ensures.names c.in_ok-script.ensures.reads in
     let content = content_of ts p block.0 in
@@ -166,9 +165,9 @@ returns-in_err-check_all-clause-reads c =
     let ts = c.in_ok-tokens.tokens in
     let f = c.in_ok-file.file in
     let old = c.file.new.work in
-    let new = c.read_proof.new.work in
+    let new = c.read_block.new.work in
     let p = held_in new.pool.trees new.decls.list f in
-    let same = ap (λ ds. held_in new.pool.trees ds.list f) c.read_proof.ensures.decls ∙ held_grown old.pool new.pool old.decls.list f c.read_proof.ensures.grows c.in_ok-file.ensures.below c.in_ok-file.ensures.live in
+    let same = ap (λ ds. held_in new.pool.trees ds.list f) c.read_block.ensures.decls ∙ held_grown old.pool new.pool old.decls.list f c.read_block.ensures.grows c.in_ok-file.ensures.below c.in_ok-file.ensures.live in
     let parses = c.in_ok-file.ensures.parses ∙ ap Ok (sym same) in
     let block = block_as old.pool.limit limit (length old.pool.trees) ts old.names (signs_of ts).names f.script new.pool.trees (Ok c.in_ok-script.script) c.file.ensures.limit c.in_ok-file.ensures.names c.in_ok-script.ensures.reads in
     let content = content_of ts p block.0 in
@@ -184,9 +183,9 @@ returns-in_err-check-clause-reads c =
     let ts = c.in_ok-tokens.tokens in
     let f = c.in_ok-file.file in
     let old = c.file.new.work in
-    let new = c.read_proof.new.work in
+    let new = c.read_block.new.work in
     let p = held_in new.pool.trees new.decls.list f in
-    let same = ap (λ ds. held_in new.pool.trees ds.list f) c.read_proof.ensures.decls ∙ held_grown old.pool new.pool old.decls.list f c.read_proof.ensures.grows c.in_ok-file.ensures.below c.in_ok-file.ensures.live in
+    let same = ap (λ ds. held_in new.pool.trees ds.list f) c.read_block.ensures.decls ∙ held_grown old.pool new.pool old.decls.list f c.read_block.ensures.grows c.in_ok-file.ensures.below c.in_ok-file.ensures.live in
     let parses = c.in_ok-file.ensures.parses ∙ ap Ok (sym same) in
     let block = block_as old.pool.limit limit (length old.pool.trees) ts old.names (signs_of ts).names f.script new.pool.trees (Ok c.in_ok-script.script) c.file.ensures.limit c.in_ok-file.ensures.names c.in_ok-script.ensures.reads in
     let content = content_of ts p block.0 in
@@ -203,9 +202,9 @@ returns-clause-reads c =
     let ts = c.in_ok-tokens.tokens in
     let f = c.in_ok-file.file in
     let old = c.file.new.work in
-    let new = c.read_proof.new.work in
+    let new = c.read_block.new.work in
     let p = held_in new.pool.trees new.decls.list f in
-    let same = ap (λ ds. held_in new.pool.trees ds.list f) c.read_proof.ensures.decls ∙ held_grown old.pool new.pool old.decls.list f c.read_proof.ensures.grows c.in_ok-file.ensures.below c.in_ok-file.ensures.live in
+    let same = ap (λ ds. held_in new.pool.trees ds.list f) c.read_block.ensures.decls ∙ held_grown old.pool new.pool old.decls.list f c.read_block.ensures.grows c.in_ok-file.ensures.below c.in_ok-file.ensures.live in
     let parses = c.in_ok-file.ensures.parses ∙ ap Ok (sym same) in
     let block = block_as old.pool.limit limit (length old.pool.trees) ts old.names (signs_of ts).names f.script new.pool.trees (Ok c.in_ok-script.script) c.file.ensures.limit c.in_ok-file.ensures.names c.in_ok-script.ensures.reads in
     let content = content_of ts p block.0 in
@@ -213,16 +212,16 @@ returns-clause-reads c =
     let typed = by_types limit bs content p read c.in_ok-nodes.ensures.none in
     let scoped = by_scope limit bs content p typed (none_behind _ (first_scope_fault p.declarations p.game) c.in_ok-directory-2.ensures.none) in
     let plain = by_groups limit bs content p scoped c.in_ok-check_all.ensures.none in
-    let own = ap (λ ds. ds.own) c.read_proof.ensures.decls ∙ c.in_ok-file.ensures.own in
+    let own = ap (λ ds. ds.own) c.read_block.ensures.decls ∙ c.in_ok-file.ensures.own in
     let is = content_same ts new f c.in_ok-script.script old.names block.0 c.in_ok-file.ensures.names c.in_ok-script.ensures.names own block.2 in
     all_reads limit bs content p new (record { file = f; script = c.in_ok-script.script }) plain c.in_ok-check.ensures.none is
 
 pub returns-clause-fits : goal.returns-clause-fits
 returns-clause-fits c =
     let old = c.file.new.work in
-    let new = c.read_proof.new.work in
+    let new = c.read_block.new.work in
     let f = c.in_ok-file.file in
-    let same = root_grown old.pool new.pool f.game.root c.read_proof.ensures.grows c.in_ok-file.ensures.live in
+    let same = root_grown old.pool new.pool f.game.root c.read_block.ensures.grows c.in_ok-file.ensures.live in
     subst (λ t. size t ≤ 50000) (sym same) c.in_ok-file.ensures.fits
 
 pub returns-clause-nodes : goal.returns-clause-nodes
@@ -232,9 +231,9 @@ returns-clause-nodes c =
     let ts = c.in_ok-tokens.tokens in
     let f = c.in_ok-file.file in
     let old = c.file.new.work in
-    let new = c.read_proof.new.work in
+    let new = c.read_block.new.work in
     let p = held_in new.pool.trees new.decls.list f in
-    let same = ap (λ ds. held_in new.pool.trees ds.list f) c.read_proof.ensures.decls ∙ held_grown old.pool new.pool old.decls.list f c.read_proof.ensures.grows c.in_ok-file.ensures.below c.in_ok-file.ensures.live in
+    let same = ap (λ ds. held_in new.pool.trees ds.list f) c.read_block.ensures.decls ∙ held_grown old.pool new.pool old.decls.list f c.read_block.ensures.grows c.in_ok-file.ensures.below c.in_ok-file.ensures.live in
     let parses = c.in_ok-file.ensures.parses ∙ ap Ok (sym same) in
     let few = c.in_ok-script.ensures.few in
     let nodes = subst (λ q. length old.pool.trees ≤ file_nodes q.declarations q.game) (sym same) c.in_ok-file.ensures.nodes in

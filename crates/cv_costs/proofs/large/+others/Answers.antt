@@ -8,7 +8,7 @@ use Rattle.cv_directory_sorts.specs.Sites.{first_of}
 use Rattle.cv_scope_rules.specs.Made.{made_by}
 use Rattle.cv_scope_rules.specs.Sites.{Variable}
 use Rattle.cv_scene_view.specs.Kept.{scene_of}
-use Rattle.cv_costs.specs.Large.{chooses, first_other_site, is_large}
+use Rattle.cv_scene.specs.Large.{chooses, first_other_site, is_large}
 use Rattle.cv_costs.proofs.OtherSites.{other_end, other_node}
 use Rattle.cv_scene_view.proofs.Tested.{reads_first, reads_here, reads_rest}
 use Rattle.cv_costs.proofs.large.+others.Goals as goal

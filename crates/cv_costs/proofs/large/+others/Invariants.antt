@@ -4,7 +4,7 @@ use Rattle.cv_syntax_trees.specs.Tree.{size}
 use Rattle.cv_syntax.specs.PoolTrees.{tree_at}
 use Rattle.cv_syntax.specs.Walks.{above}
 use Rattle.cv_scene_view.specs.Kept.{scene_of}
-use Rattle.cv_costs.specs.Large.{first_other_site, is_large}
+use Rattle.cv_scene.specs.Large.{first_other_site, is_large}
 use Rattle.cv_costs.proofs.large.+others.Given as goal
 
 abbrev pub decreases-others : goal.decreases-others

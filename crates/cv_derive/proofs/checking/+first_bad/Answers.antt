@@ -3,7 +3,7 @@ use Rattle.cv_syntax.specs.PoolTrees.{tree_at}
 use Rattle.cv_syntax.specs.Walks.{above}
 use Rattle.cv_syntax.proofs.Trees.{child_above, child_live, empty_at}
 use Rattle.cv_syntax.proofs.Walking.{above_child, above_some}
-use Rattle.cv_derive_rules.specs.Lines.{lines_of}
+use Rattle.cv_scene.specs.lines.Lines.{lines_of}
 use Rattle.cv_derive_lines.specs.declared.lines.Line.TheVariants as line
 use Rattle.cv_derive_lines.specs.declared.lines.Claim.TheVariants as claim
 use Rattle.cv_derive_lines.specs.Views.{statement_of}

@@ -2,7 +2,7 @@ use Rattle.std.proofs.Common.{◌≡◌, ◌≤◌, length}
 use Rattle.cv_pool.specs.Nodes.{ChildBelow}
 use Rattle.cv_syntax.specs.PoolTrees.{tree_at}
 use Rattle.cv_syntax.specs.Walks.{above}
-use Rattle.cv_derive_rules.specs.Lines.{lines_of}
+use Rattle.cv_scene.specs.lines.Lines.{lines_of}
 use Rattle.cv_derive_lines.specs.citing.Bookmarks.{Serves}
 use Rattle.cv_derive.specs.Searching.{first_bad_in}
 use Rattle.cv_derive.specs.Seen.{assumed_of, sight_of, trees_of}

@@ -1,7 +1,7 @@
 use Rattle.std.proofs.Common.{arith, sym, ◌∙◌}
 use Rattle.cv_syntax.specs.PoolTrees.{tree_at}
 use Rattle.cv_scene.specs.Sights.{sight_at}
-use Rattle.cv_derive_rules.specs.Lines.{lines_of}
+use Rattle.cv_scene.specs.lines.Lines.{lines_of}
 use Rattle.cv_scene_view.specs.Kept.{scene_of}
 use Rattle.cv_derive.proofs.Judging.{few_statements, says_line, says_right, says_targets, verdict_line, verdict_right, verdict_targets}
 use Rattle.cv_derive.proofs.Seeing.{seen_from_first}

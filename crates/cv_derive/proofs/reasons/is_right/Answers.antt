@@ -1,6 +1,6 @@
 use Rattle.std.proofs.Common.{ap}
 use Rattle.cv_syntax.specs.PoolTrees.{tree_at}
-use Rattle.cv_derive_rules.specs.Lines.{Holds, IsDefined}
+use Rattle.cv_scene.specs.lines.Lines.{Holds, IsDefined}
 use Rattle.cv_derive_lines.specs.Views.{statement_of}
 use Rattle.cv_derive_lines.specs.citing.Bookmarks.{visible_to}
 use Rattle.cv_derive.specs.Seen.{assumed_of, sight_of, trees_of}

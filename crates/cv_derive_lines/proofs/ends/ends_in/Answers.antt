@@ -1,7 +1,7 @@
 use Rattle.std.proofs.Common.{length, sym, ◌∙◌}
 use Rattle.cv_syntax.specs.PoolTrees.{tree_at}
 use Rattle.cv_syntax.proofs.Trees.{child_live, empty_at}
-use Rattle.cv_derive_rules.specs.Lines.{Holds, lines_of, statements}
+use Rattle.cv_scene.specs.lines.Lines.{Holds, lines_of, statements}
 use Rattle.cv_derive_lines.specs.Views.{statement_of}
 use Rattle.cv_derive_lines.proofs.Ending.{last_more, last_none, last_one, no_statements, statements_at}
 use Rattle.cv_derive_lines.proofs.ends.ends_in.Goals as goal

@@ -2,8 +2,8 @@ use Rattle.std.proofs.Common.{◌≡◌, length}
 use Rattle.cv_pool.specs.Nodes.{ChildBelow}
 use Rattle.cv_syntax.specs.PoolTrees.{tree_at}
 use Rattle.cv_syntax.specs.Walks.{above}
-use Rattle.cv_derive_rules.specs.Ends.{ends_in}
-use Rattle.cv_derive_rules.specs.Lines.{Holds, lines_of, statements}
+use Rattle.cv_scene.specs.lines.Ends.{ends_in}
+use Rattle.cv_scene.specs.lines.Lines.{Holds, lines_of, statements}
 use Rattle.cv_derive_lines.proofs.ends.ends_in.Given as goal
 
 abbrev pub invariant-lines : goal.invariant-lines

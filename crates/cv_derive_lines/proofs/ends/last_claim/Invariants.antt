@@ -3,7 +3,7 @@ use Rattle.std.specs.Prelude.{IfSome, option_map}
 use Rattle.cv_pool.specs.Nodes.{ChildBelow}
 use Rattle.cv_syntax.specs.PoolTrees.{tree_at}
 use Rattle.cv_syntax.specs.Walks.{above}
-use Rattle.cv_derive_rules.specs.Lines.{lines_of, statements}
+use Rattle.cv_scene.specs.lines.Lines.{lines_of, statements}
 use Rattle.cv_derive_lines.specs.Lasts.{last_behind, last_of}
 use Rattle.cv_derive_lines.specs.Views.{IsClaimBelow, statement_of}
 use Rattle.cv_derive_lines.proofs.ends.last_claim.Given as goal

@@ -1,7 +1,7 @@
 use Rattle.std.proofs.Common.{length, sym, ◌∙◌}
 use Rattle.cv_syntax.specs.PoolTrees.{tree_at}
 use Rattle.cv_syntax.proofs.Trees.{child_live, empty_at}
-use Rattle.cv_derive_rules.specs.Lines.{lines_of, statements}
+use Rattle.cv_scene.specs.lines.Lines.{lines_of, statements}
 use Rattle.cv_derive_lines.specs.Views.{statement_of}
 use Rattle.cv_derive_lines.proofs.Ending.{no_statements, same_end, same_first, same_rest, same_short, statements_at, statements_behind}
 use Rattle.cv_derive_lines.proofs.ends.same_lines.Goals as goal

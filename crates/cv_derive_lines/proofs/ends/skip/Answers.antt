@@ -1,7 +1,7 @@
 use Rattle.std.proofs.Common.{None, length, sym, ◌∙◌}
 use Rattle.cv_syntax.specs.PoolTrees.{tree_at}
 use Rattle.cv_syntax.proofs.Trees.{child_live, empty_at, tree_at_None}
-use Rattle.cv_derive_rules.specs.Lines.{lines_of, statements}
+use Rattle.cv_scene.specs.lines.Lines.{lines_of, statements}
 use Rattle.cv_derive_lines.proofs.Ending.{no_statements, skip_behind, skip_none, statements_behind}
 use Rattle.cv_derive_lines.proofs.ends.skip.Goals as goal
 

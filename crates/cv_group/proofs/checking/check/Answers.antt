@@ -3,11 +3,11 @@ use Rattle.cv_syntax.specs.PoolTrees.{tree_at}
 use Rattle.cv_syntax.specs.Classes.{equiv_in}
 use Rattle.cv_syntax.specs.Declarations.{declarations}
 use Rattle.cv_group.specs.Tables.{symbols_in}
-use Rattle.cv_group.specs.rules.Symbols.{symbols_of}
+use Rattle.cv_group_rules.specs.Symbols.{symbols_of}
 use Rattle.cv_pool.specs.Nodes.{ChildBelow}
 use Rattle.std.specs.Prelude.{OnOk, IfErr}
 use Rattle.cv_group.specs.Refusals.{IsRefusalOf}
-use Rattle.cv_group.specs.rules.Faults.{group_fault}
+use Rattle.cv_group_rules.specs.Faults.{group_fault}
 use Rattle.cv_group.proofs.Lists as list
 use Rattle.cv_group.proofs.checking.check.Goals as goal
 

@@ -2,9 +2,9 @@ use Rattle.std.proofs.Common.{◌≡◌, ◌+◌, length, drop, ap, sym, ◌∙�
 use Rattle.cv_syntax.specs.PoolTrees.{tree_at}
 use Rattle.cv_syntax.specs.Declarations.{declarations}
 use Rattle.cv_group.specs.Tables.{symbols_in}
-use Rattle.cv_group.specs.rules.Symbols.{symbols_of}
+use Rattle.cv_group_rules.specs.Symbols.{symbols_of}
 use Rattle.cv_group.specs.Refusals.{IsRefusalOf}
-use Rattle.cv_group.specs.rules.Faults.{equivalences_in, first_group_fault, group_fault}
+use Rattle.cv_group_rules.specs.Faults.{equivalences_in, first_group_fault, group_fault}
 use Rattle.cv_group.proofs.Lists as list
 use Rattle.cv_group.proofs.checking.check_all.Goals as goal
 

@@ -1,8 +1,8 @@
 use Rattle.std.proofs.Common.{◌≡◌, ◌≤◌, drop}
 use Rattle.cv_syntax.specs.Declarations.{declarations}
 use Rattle.cv_group.specs.Tables.{symbols_in}
-use Rattle.cv_group.specs.rules.Symbols.{symbols_of}
-use Rattle.cv_group.specs.rules.Faults.{equivalences_in, first_group_fault}
+use Rattle.cv_group_rules.specs.Symbols.{symbols_of}
+use Rattle.cv_group_rules.specs.Faults.{equivalences_in, first_group_fault}
 use Rattle.cv_group.proofs.Lists.{behind}
 use Rattle.cv_group.proofs.checking.check_all.Given as goal
 

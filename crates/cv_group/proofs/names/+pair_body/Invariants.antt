@@ -3,7 +3,7 @@ use Rattle.cv_pool.specs.Nodes.{ChildBelow}
 use Rattle.cv_syntax.specs.PoolTrees.{tree_at}
 use Rattle.cv_syntax.specs.Walks.{above}
 use Rattle.std.specs.Prelude.{◌==◌}
-use Rattle.cv_group.specs.rules.Rules as rule
+use Rattle.cv_group_rules.specs.Rules as rule
 use Rattle.cv_group.specs.bodies.Levels.{is_paired}
 use Rattle.cv_group.proofs.names.+pair_body.Given as goal
 

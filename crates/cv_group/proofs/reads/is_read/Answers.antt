@@ -2,7 +2,7 @@ use Rattle.std.proofs.Common.{◌≡◌, ℕ, false, ◌&&◌, ◌||◌, ◌++�
 use Rattle.cv_syntax_trees.specs.Tree.{second}
 use Rattle.cv_syntax.specs.PoolTrees.{tree_at}
 use Rattle.cv_syntax_trees.specs.Tree.{bound_names, first}
-use Rattle.cv_group.specs.rules.Rules as rule
+use Rattle.cv_group_rules.specs.Rules as rule
 use Rattle.cv_group.proofs.shapes.Steps as side
 use Rattle.cv_group.proofs.shapes.Taking as taking
 use Rattle.cv_group.specs.shapes.Shapes.{are_taken, without_all}

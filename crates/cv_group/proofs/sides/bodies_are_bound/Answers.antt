@@ -2,7 +2,7 @@ use Rattle.std.proofs.Common.{◌≡◌, length, [], ap, sym, ◌∙◌}
 use Rattle.cv_syntax_trees.specs.Tree.{second}
 use Rattle.cv_syntax.specs.PoolTrees.{tree_at}
 use Rattle.cv_syntax.proofs.Trees.{child_live, empty_at, node_at}
-use Rattle.cv_group.specs.rules.Rules as rule
+use Rattle.cv_group_rules.specs.Rules as rule
 use Rattle.cv_group.proofs.shapes.Steps as side
 use Rattle.cv_group.specs.Tables.{around_by, symbols_in}
 use Rattle.cv_group.specs.bodies.Levels.{is_paired}

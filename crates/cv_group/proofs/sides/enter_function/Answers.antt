@@ -5,7 +5,7 @@ use Rattle.cv_syntax.specs.NameSets.{is_in, is_one_of}
 use Rattle.std.proofs.Math.Path.{fun_ext}
 use Rattle.cv_meaning.specs.contexts.Groups.{bound_of}
 use Rattle.cv_group.specs.bodies.Levels.{is_paired}
-use Rattle.cv_group.specs.rules.Rules as rule
+use Rattle.cv_group_rules.specs.Rules as rule
 use Rattle.cv_group.proofs.sides.enter_function.Goals as goal
 
 pub returns-clause-around : goal.returns-clause-around

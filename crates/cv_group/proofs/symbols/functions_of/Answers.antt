@@ -6,7 +6,7 @@ use Rattle.cv_syntax.specs.NameSets.{is_in}
 use Rattle.cv_syntax.specs.Declarations.{declarations}
 use Rattle.std.proofs.Math.Path.{fun_ext}
 use Rattle.cv_group.specs.Tables.{function_in}
-use Rattle.cv_group.specs.rules.Symbols.{is_function_of}
+use Rattle.cv_group_rules.specs.Symbols.{is_function_of}
 use Rattle.cv_group.proofs.symbols.functions_of.Goals as goal
 
 pub decls-preserved-in_default : goal.decls-preserved-in_default

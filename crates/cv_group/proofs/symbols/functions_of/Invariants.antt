@@ -2,7 +2,7 @@ use Rattle.std.proofs.Common.{◌≡◌, ◌||◌, ℕ, List, drop}
 use Rattle.cv_pool.specs.KindTree.{KindTree}
 use Rattle.cv_syntax.specs.Declarations.{declarations}
 use Rattle.cv_syntax.specs.NameSets.{is_in}
-use Rattle.cv_group.specs.rules.Symbols.{is_function_of}
+use Rattle.cv_group_rules.specs.Symbols.{is_function_of}
 use Rattle.cv_group.proofs.symbols.functions_of.Given as goal
 
 abbrev pub invariant-decls : goal.invariant-decls

@@ -2,7 +2,7 @@ use Rattle.std.proofs.Common.{ℕ, Bool, ap, ◌∙◌}
 use Rattle.cv_syntax.specs.NameSets.{is_in}
 use Rattle.cv_syntax.specs.Declarations.{declarations}
 use Rattle.cv_meaning.specs.Interpretation.{is_constant_of}
-use Rattle.cv_group.specs.rules.Symbols.{Symbols}
+use Rattle.cv_group_rules.specs.Symbols.{Symbols}
 use Rattle.cv_group.proofs.symbols.symbols_of.Goals as goal
 
 pub returns : goal.returns

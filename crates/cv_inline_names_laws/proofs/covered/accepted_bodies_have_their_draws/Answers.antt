@@ -1,5 +1,5 @@
 use Rattle.cv_meaning.specs.contexts.Groups.{Right}
-use Rattle.cv_group.specs.rules.Rules.{functions_in}
+use Rattle.cv_group_rules.specs.Rules.{functions_in}
 use Rattle.cv_inline.specs.bodies.Inlining.{Inlining}
 use Rattle.cv_inline.specs.NextGame.{Calling, callers_of, callings_of}
 use Rattle.cv_meaning.specs.contexts.Groups.{side_group}

@@ -2,7 +2,7 @@ use Rattle.std.proofs.Common.{length, subst, sym, ◌+◌, ◌≤◌}
 use Rattle.std.specs.Prelude.{OnOk}
 use Rattle.cv_scene_view.specs.Kept.{scene_of}
 use Rattle.cv_script.specs.Views.{items_of_view}
-use Rattle.cv_edit.specs.Edits.{need_of}
+use Rattle.cv_rule.specs.edit.Edits.{need_of}
 use Rattle.cv_kernel.specs.Answers.{IsAnswer}
 use Rattle.cv_kernel.specs.Rules.{needed_by, rule_of_items}
 use Rattle.cv_kernel.specs.Steps.{judgement_by}

@@ -5,7 +5,7 @@ use Rattle.cv_scene_view.specs.Kept.{scene_of}
 use Rattle.cv_rule.proofs.Readings.{read_prepared}
 use Rattle.cv_steps.specs.Judgements.{judgement_of_row}
 use Rattle.cv_steps.specs.Steps.{Leads}
-use Rattle.cv_edit.specs.Edits.{edited, need_of}
+use Rattle.cv_rule.specs.edit.Edits.{edited, need_of}
 use Rattle.cv_kernel.specs.Answers.{IsAnswer}
 use Rattle.cv_kernel.proofs.Answers.{answer_through, edit_answer, empty_game, game_answer, over_answer, refused}
 use Rattle.cv_kernel.proofs.applying.make.Goals as goal

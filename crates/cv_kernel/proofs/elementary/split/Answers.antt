@@ -3,7 +3,7 @@ use Rattle.cv_syntax.specs.PoolTrees.{tree_at}
 use Rattle.cv_scene_view.specs.Kept.{scene_of}
 use Rattle.cv_rule.proofs.Leading.{split_stands_not}
 use Rattle.cv_edit_places.specs.declared.change.Change.TheVariants as change
-use Rattle.cv_edit.specs.declared.edit.Edit.TheVariants as edit
+use Rattle.cv_rule.specs.declared.edit.edit.Edit.TheVariants as edit
 use Rattle.cv_script.specs.Views as items
 use Rattle.cv_kernel.specs.Answers.{IsEditPlan}
 use Rattle.cv_kernel.specs.Rules.{rule_of_items}

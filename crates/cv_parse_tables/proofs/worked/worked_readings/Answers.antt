@@ -13,3 +13,11 @@ returns-clause-too_deep c = refl
 pub returns-clause-unended : goal.returns-clause-unended
 unfolding read_sort
 returns-clause-unended c = refl
+
+pub returns-clause-marked : goal.returns-clause-marked
+unfolding read_sort
+returns-clause-marked c = refl
+
+pub returns-clause-marked_twice : goal.returns-clause-marked_twice
+unfolding read_sort
+returns-clause-marked_twice c = refl

@@ -1,7 +1,7 @@
 use Rattle.std.proofs.Common.{◌∷◌, None, refl, ap, ap₂, ◌∙◌}
 use Rattle.cv_syntax.specs.PoolTrees.{tree_at}
-use Rattle.cv_derive_rules.specs.Ends.{is_end}
-use Rattle.cv_derive_rules.specs.Lines.{IsDefined, lines_of, statements}
+use Rattle.cv_scene.specs.lines.Ends.{is_end}
+use Rattle.cv_scene.specs.lines.Lines.{IsDefined, lines_of, statements}
 use Rattle.cv_query_certificates.specs.EventNodes.{arguments_at, only_site}
 use Rattle.cv_query_entries.specs.ends.Said.{said_equal}
 use Rattle.cv_query_entries.specs.Views.{game_of, trees_of}

@@ -1,9 +1,10 @@
-use Rattle.std.proofs.Common.{refl, ap, ◌∙◌}
+use Rattle.std.proofs.Common.{refl, sym, ap, ◌∙◌}
 use Rattle.std.specs.List.{list_all}
 use Rattle.cv_syntax.specs.PoolTrees.{tree_at}
 use Rattle.cv_meaning.specs.Correspondences.{atoms_of}
-use Rattle.cv_query_certificates.specs.Claims.{claims_of}
+use Rattle.cv_query_certificates.specs.Claims.{at_place, claims_of}
 use Rattle.cv_query_certificates.specs.Failures.{has_end}
+use Rattle.cv_query_certificates.proofs.Alternatives.{numbered_atoms}
 use Rattle.cv_query_entries.specs.Said.{saying_seen}
 use Rattle.cv_query_entries.specs.Views.{asked_of, scene_of, trees_of}
 use Rattle.cv_query.proofs.Claiming.{form_many, never_claims, never_end, put_of, with_claims}
@@ -26,4 +27,6 @@ returns-in_ok-ends-in-With c =
     with_claims (has_end s c.args.place) s q c.args.place (tree_at trees c.args.part) x c.entry_of.ensures.saying (tree_at trees c.in-With.place) (tree_at trees c.in-With.witnesses) (tree_at trees c.in-With.routes) c.in_ok-ends-in-With.ends f
     (c.in_ok-ends-in-With.ensures c.args.place
     ∙ ap (λ g. list_all (has_end s c.args.place) (claims_of s g (atoms_of (tree_at trees c.args.asked.now.atoms)) (tree_at trees c.in-With.routes)))
-    (put_of trees (record { variables = c.args.asked.now.variables; arguments = c.arguments_at.result; others = c.args.asked.now.others; terms = c.in-With.witnesses }) s q c.args.place (tree_at trees c.in-With.witnesses) refl c.arguments_at.ensures.tree refl refl m))
+    (put_of trees (record { variables = c.args.asked.now.variables; arguments = c.arguments_at.result; others = c.args.asked.now.others; terms = c.in-With.witnesses }) s q c.args.place (tree_at trees c.in-With.witnesses) refl c.arguments_at.ensures.tree refl refl m)
+    ∙ ap (λ cs. list_all (has_end s c.args.place) (claims_of s (at_place s q c.args.place (tree_at trees c.in-With.witnesses)) cs (tree_at trees c.in-With.routes)))
+    (sym (numbered_atoms 1 (atoms_of (tree_at trees c.args.asked.now.atoms)))))

@@ -1,7 +1,7 @@
 use Rattle.std.proofs.Common.{Some, ap, ◌∙◌}
 use Rattle.std.specs.Prelude.{option_map}
 use Rattle.cv_syntax.specs.PoolTrees.{tree_at}
-use Rattle.cv_derive_rules.specs.Truths.{no}
+use Rattle.cv_scene.specs.lines.Truths.{no}
 use Rattle.cv_derive_lines.specs.Views.{statement_of}
 use Rattle.cv_rule.proofs.Endings.{ends_nowhere, ends_so, ends_with_cell}
 use Rattle.cv_rule.proofs.targets.ends_with_falsity.Goals as goal

@@ -6,7 +6,7 @@ use Rattle.cv_syntax.specs.Postorder.{joined}
 use Rattle.cv_syntax.specs.Walks.{above}
 use Rattle.cv_syntax.proofs.Trees.{child_live, empty_at, node_at, tree_at_None}
 use Rattle.cv_syntax.proofs.Walking.{above_child, above_some}
-use Rattle.cv_derive_rules.specs.Inferences.{equations_of}
+use Rattle.cv_scene.specs.lines.Inferences.{equations_of}
 use Rattle.cv_scope_rules.specs.Context.{items}
 use Rattle.cv_edit_places.specs.Parts.{stack_of}
 use Rattle.cv_rule_birthday.proofs.Equated.{equations_ended, equations_later, made_ended, made_later, made_left, made_right, nothing_left, nothing_right}

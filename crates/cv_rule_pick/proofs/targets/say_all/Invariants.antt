@@ -1,6 +1,6 @@
 use Rattle.std.proofs.Common.{◌≡◌, ◌+◌, drop, map}
 use Rattle.cv_derive_lines.specs.Views.{statement_of}
-use Rattle.cv_derive_rules.specs.Ends.{same_statements}
+use Rattle.cv_scene.specs.lines.Ends.{same_statements}
 use Rattle.cv_rule_pick.specs.Wanted.{wanted_of}
 use Rattle.cv_rule_pick.proofs.targets.say_all.Given as goal
 

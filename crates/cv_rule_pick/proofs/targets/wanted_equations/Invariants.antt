@@ -3,7 +3,7 @@ use Rattle.cv_pool.specs.Nodes.{ChildBelow}
 use Rattle.cv_syntax.specs.PoolTrees.{tree_at}
 use Rattle.cv_syntax.specs.Walks.{above}
 use Rattle.cv_scope_rules.specs.Context.{cells_of}
-use Rattle.cv_derive_rules.specs.Lines.{lines_of, statements}
+use Rattle.cv_scene.specs.lines.Lines.{lines_of, statements}
 use Rattle.cv_rule_pick.specs.Picking.{equations}
 use Rattle.cv_rule_pick.specs.Wanted.{IsLiveWanted, wanted_of}
 use Rattle.cv_rule_pick.specs.declared.targets.Given.{Given}

@@ -4,7 +4,7 @@ use Rattle.cv_syntax_trees.specs.Tree.{Tree}
 use Rattle.cv_syntax.specs.PoolTrees.{tree_at}
 use Rattle.cv_syntax.specs.Walks.{above}
 use Rattle.cv_scope_rules.specs.Context.{items}
-use Rattle.cv_derive_rules.specs.Lines.{lines_of, statements}
+use Rattle.cv_scene.specs.lines.Lines.{lines_of, statements}
 use Rattle.cv_rule_pick.specs.Picking.{guards}
 use Rattle.cv_rule_pick.specs.Wanted.{IsLiveWanted, put, wanted_of}
 use Rattle.cv_rule_pick.specs.declared.targets.Given.{Given}

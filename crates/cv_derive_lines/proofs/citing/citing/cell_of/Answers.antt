@@ -1,6 +1,6 @@
 use Rattle.std.proofs.Common.{Some, sym, ap, ◌∙◌}
 use Rattle.cv_syntax.proofs.Trees.{tree_at_None}
-use Rattle.cv_derive_rules.specs.Inferences.{cell_in}
+use Rattle.cv_scene.specs.lines.Inferences.{cell_in}
 use Rattle.cv_derive_lines.specs.Views.{statement_of}
 use Rattle.cv_derive_lines.proofs.citing.citing.cell_of.Goals as goal
 

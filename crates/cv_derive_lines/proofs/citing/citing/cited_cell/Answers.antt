@@ -1,6 +1,6 @@
 use Rattle.std.proofs.Common.{refl, length}
 use Rattle.cv_syntax.specs.PoolTrees.{tree_at}
-use Rattle.cv_derive_rules.specs.Inferences.{number_of, cell_in}
+use Rattle.cv_scene.specs.lines.Inferences.{number_of, cell_in}
 use Rattle.cv_derive_lines.specs.citing.Bookmarks.{visible_to}
 use Rattle.cv_derive_lines.proofs.citing.Saying.{said_none, said_some}
 use Rattle.cv_derive_lines.proofs.citing.citing.cited_cell.Goals as goal

@@ -1,6 +1,6 @@
 use Rattle.std.proofs.Common.{arith, ◌∙◌}
 use Rattle.cv_syntax.specs.PoolTrees.{tree_at}
-use Rattle.cv_derive_rules.specs.Lines.{lines_of}
+use Rattle.cv_scene.specs.lines.Lines.{lines_of}
 use Rattle.cv_derive_lines.proofs.citing.Looking.{found_at, found_behind}
 use Rattle.cv_derive_lines.proofs.citing.citing.cited_claim.Goals as goal
 

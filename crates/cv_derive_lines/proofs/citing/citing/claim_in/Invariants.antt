@@ -2,7 +2,7 @@ use Rattle.std.proofs.Common.{◌≡◌, ◌+◌, ◌≤◌, length}
 use Rattle.cv_pool.specs.Nodes.{ChildBelow}
 use Rattle.cv_syntax.specs.PoolTrees.{tree_at}
 use Rattle.cv_syntax.specs.Walks.{above}
-use Rattle.cv_derive_rules.specs.Lines.{count, lines_of}
+use Rattle.cv_scene.specs.lines.Lines.{count, lines_of}
 use Rattle.cv_derive_lines.specs.citing.Citing.{cited_from}
 use Rattle.cv_derive_lines.proofs.citing.citing.claim_in.Given as goal
 

@@ -3,7 +3,7 @@ use Rattle.cv_pool.specs.Nodes.{ChildBelow}
 use Rattle.cv_syntax.specs.PoolTrees.{tree_at}
 use Rattle.cv_syntax.specs.Walks.{above}
 use Rattle.cv_scope_rules.specs.Context.{items}
-use Rattle.cv_derive_rules.specs.Inferences.{are_equal_by}
+use Rattle.cv_scene.specs.lines.Inferences.{are_equal_by}
 use Rattle.cv_derive_lines.specs.citing.Bookmarks.{visible_to}
 use Rattle.cv_derive_lines.proofs.terms.arguments.are_equal_by.Given as goal
 

@@ -1,7 +1,7 @@
 use Rattle.std.proofs.Common.{◌<◌, arith, length}
 use Rattle.cv_syntax.specs.PoolTrees.{tree_at}
 use Rattle.cv_syntax.proofs.Walking.{live_child}
-use Rattle.cv_derive_rules.specs.Inferences.{number_of}
+use Rattle.cv_scene.specs.lines.Inferences.{number_of}
 use Rattle.cv_derive_lines.proofs.terms.Equations.{instance_at, live_equation, no_equation, other_types}
 use Rattle.cv_derive_lines.proofs.terms.instances.is_instance.Goals as goal
 

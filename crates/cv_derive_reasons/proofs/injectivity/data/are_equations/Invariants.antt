@@ -4,7 +4,7 @@ use Rattle.cv_syntax_trees.specs.Tree.{same_tree}
 use Rattle.cv_syntax.specs.PoolTrees.{tree_at}
 use Rattle.cv_syntax.specs.Walks.{above as rank}
 use Rattle.cv_scope_rules.specs.Context.{items}
-use Rattle.cv_derive_rules.specs.Inferences.{equations_of}
+use Rattle.cv_scene.specs.lines.Inferences.{equations_of}
 use Rattle.cv_derive_reasons.proofs.injectivity.data.are_equations.Given as goal
 
 abbrev pub invariant-items : goal.invariant-items

@@ -1,7 +1,7 @@
 use Rattle.std.proofs.Common.{◌≡◌, length, drop}
 use Rattle.cv_pool.specs.Nodes.{ChildBelow}
 use Rattle.cv_syntax.specs.PoolTrees.{tree_at}
-use Rattle.cv_derive_rules.specs.Given.{term_for}
+use Rattle.cv_scene.specs.lines.Given.{term_for}
 use Rattle.cv_derive_reasons.specs.substitution.Under.{names_of}
 use Rattle.cv_derive_reasons.proofs.substitution.substitution.term_for.Given as goal
 

@@ -4,7 +4,7 @@ use Rattle.cv_syntax.specs.PoolTrees.{tree_at}
 use Rattle.cv_syntax.specs.Walks.{above}
 use Rattle.cv_syntax.proofs.Trees.{child_live, empty_at}
 use Rattle.cv_syntax.proofs.Walking.{above_child, above_some, depth_le_size}
-use Rattle.cv_derive_rules.specs.Given.{with_given}
+use Rattle.cv_scene.specs.lines.Given.{with_given}
 use Rattle.cv_edit_changes.specs.unletting.Assigned.{names_above}
 use Rattle.cv_edit_changes.proofs.unletting.Substituted.{under_depth, under_flat, under_given, under_size}
 use Rattle.cv_edit_changes.proofs.unletting.under.+depth_under.Goals as goal

@@ -3,7 +3,7 @@ use Rattle.cv_syntax.specs.PoolTrees.{tree_at}
 use Rattle.cv_syntax.proofs.Trees.{child_live, empty_at}
 use Rattle.cv_syntax.proofs.Walking.{above_child, above_some}
 use Rattle.cv_syntax.proofs.listing.Lists.{listed_end, listed_last, listed_on, listed_same, on_ok}
-use Rattle.cv_derive_rules.specs.Given.{with_given}
+use Rattle.cv_scene.specs.lines.Given.{with_given}
 use Rattle.cv_edit_changes.specs.unletting.Assigned.{names_above}
 use Rattle.cv_edit_changes.proofs.unletting.Substituted.{under_Empty, under_given, under_stays}
 use Rattle.cv_edit_changes.proofs.unletting.under.+list_under.Goals as goal

@@ -4,7 +4,7 @@ use Rattle.cv_syntax.specs.PoolTrees.{tree_at}
 use Rattle.cv_syntax.specs.Walks.{above}
 use Rattle.cv_syntax.specs.Postorder.{postorder}
 use Rattle.cv_syntax.proofs.listing.Lists.{Listed}
-use Rattle.cv_derive_rules.specs.Given.{with_given}
+use Rattle.cv_scene.specs.lines.Given.{with_given}
 use Rattle.cv_edit_changes.specs.unletting.Assigned.{names_above}
 use Rattle.cv_edit_changes.proofs.unletting.under.+list_under.Given as goal
 

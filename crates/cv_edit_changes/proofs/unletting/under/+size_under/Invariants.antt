@@ -3,7 +3,7 @@ use Rattle.cv_pool.specs.Nodes.{ChildBelow}
 use Rattle.cv_syntax_trees.specs.Tree as tree
 use Rattle.cv_syntax.specs.PoolTrees.{tree_at}
 use Rattle.cv_syntax.specs.Walks.{above}
-use Rattle.cv_derive_rules.specs.Given.{with_given}
+use Rattle.cv_scene.specs.lines.Given.{with_given}
 use Rattle.cv_edit_changes.specs.unletting.Assigned.{names_above}
 use Rattle.cv_edit_changes.proofs.unletting.under.+size_under.Given as goal
 

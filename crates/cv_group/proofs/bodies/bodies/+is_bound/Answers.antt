@@ -1,7 +1,7 @@
 use Rattle.std.proofs.Common.{◌≡◌, ◌+◌, ◌≤◌, length, map, ◌++◌, ap, sym, ◌∙◌, arith}
 use Rattle.cv_syntax.specs.PoolTrees.{tree_at}
 use Rattle.cv_syntax.proofs.Trees.{child_above, child_live, empty_at, node_at}
-use Rattle.cv_group.specs.rules.Rules as rule
+use Rattle.cv_group_rules.specs.Rules as rule
 use Rattle.cv_group.proofs.bodies.Walks as walk
 use Rattle.cv_group.specs.bodies.Levels.{around_of, level_of, node_passes, term_passes}
 use Rattle.std.proofs.lemmas.List.{take-append-le}

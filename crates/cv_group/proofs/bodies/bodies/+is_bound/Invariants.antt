@@ -2,7 +2,7 @@ use Rattle.std.proofs.Common.{◌≡◌, ◌≤◌, length, map, take}
 use Rattle.cv_pool.specs.Nodes.{ChildBelow}
 use Rattle.cv_syntax.specs.PoolTrees.{tree_at}
 use Rattle.cv_syntax.specs.Walks.{above}
-use Rattle.cv_group.specs.rules.Rules as rule
+use Rattle.cv_group_rules.specs.Rules as rule
 use Rattle.cv_group.specs.bodies.Levels.{around_of, level_of}
 use Rattle.cv_group.proofs.bodies.bodies.+is_bound.Given as goal
 

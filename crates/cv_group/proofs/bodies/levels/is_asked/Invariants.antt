@@ -1,5 +1,5 @@
 use Rattle.std.proofs.Common.{◌≡◌, drop, false, map}
-use Rattle.cv_group.specs.rules.Rules as rule
+use Rattle.cv_group_rules.specs.Rules as rule
 use Rattle.cv_group.specs.bodies.Levels.{level_of}
 use Rattle.cv_group.proofs.bodies.levels.is_asked.Given as goal
 

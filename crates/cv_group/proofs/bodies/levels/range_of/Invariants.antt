@@ -1,5 +1,5 @@
 use Rattle.std.proofs.Common.{◌≡◌, drop, map, None}
-use Rattle.cv_group.specs.rules.Rules as rule
+use Rattle.cv_group_rules.specs.Rules as rule
 use Rattle.cv_group.specs.bodies.Levels.{level_of}
 use Rattle.cv_group.proofs.bodies.levels.range_of.Given as goal
 

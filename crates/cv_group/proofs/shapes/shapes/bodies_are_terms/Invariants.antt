@@ -3,7 +3,7 @@ use Rattle.cv_pool.specs.Nodes.{ChildBelow}
 use Rattle.cv_syntax_trees.specs.Tree.{second}
 use Rattle.cv_syntax.specs.PoolTrees.{tree_at}
 use Rattle.cv_syntax.specs.Walks.{above}
-use Rattle.cv_group.specs.rules.Rules as rule
+use Rattle.cv_group_rules.specs.Rules as rule
 use Rattle.cv_group.proofs.shapes.shapes.bodies_are_terms.Given as goal
 
 abbrev pub invariant-list : goal.invariant-list

@@ -1,8 +1,8 @@
 use Rattle.std.proofs.Common.{◌≡◌, ◌≤◌, ◌<◌, ◌∷◌, Some, suc, drop, length, refl, ap, sym, arith, ◌∙◌}
 use Rattle.cv_syntax.specs.PoolTrees.{tree_at}
 use Rattle.cv_syntax.proofs.Trees.{empty_at}
-use Rattle.cv_derive_rules.specs.Ends.{is_end, same_statements}
-use Rattle.cv_derive_rules.specs.Lines.{IsDefined, lines_of, statements}
+use Rattle.cv_scene.specs.lines.Ends.{is_end, same_statements}
+use Rattle.cv_scene.specs.lines.Lines.{IsDefined, lines_of, statements}
 use Rattle.cv_query_entries.specs.terms.Parts.{part_tree}
 use Rattle.cv_query_entries.specs.ends.Said.{said_equal}
 use Rattle.cv_query_entries.proofs.ends.Ending.{end_last, too_few}

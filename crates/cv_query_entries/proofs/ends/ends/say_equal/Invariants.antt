@@ -1,8 +1,8 @@
 use Rattle.std.proofs.Common.{◌≡◌, length}
 use Rattle.cv_pool.specs.Nodes.{ChildBelow}
 use Rattle.cv_syntax.specs.PoolTrees.{tree_at}
-use Rattle.cv_derive_rules.specs.Ends.{same_statements}
-use Rattle.cv_derive_rules.specs.Lines.{lines_of, statements}
+use Rattle.cv_scene.specs.lines.Ends.{same_statements}
+use Rattle.cv_scene.specs.lines.Lines.{lines_of, statements}
 use Rattle.cv_query_entries.specs.terms.Parts.{left_of, part_tree}
 use Rattle.cv_query_entries.specs.ends.Said.{said_equal}
 use Rattle.cv_query_entries.proofs.ends.ends.say_equal.Given as goal

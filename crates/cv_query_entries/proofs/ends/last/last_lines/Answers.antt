@@ -1,7 +1,7 @@
 use Rattle.std.proofs.Common.{length, refl}
 use Rattle.cv_syntax.specs.PoolTrees.{tree_at}
 use Rattle.cv_syntax.proofs.Trees.{child_live, empty_at}
-use Rattle.cv_derive_rules.specs.Lines.{lines_of, statements}
+use Rattle.cv_scene.specs.lines.Lines.{lines_of, statements}
 use Rattle.cv_query_entries.proofs.ends.Ending.{ahead_more, at_last, not_last}
 use Rattle.cv_query_entries.proofs.ends.Lines.{nothing_said, said_behind}
 use Rattle.cv_query_entries.proofs.ends.last.last_lines.Goals as goal

@@ -1,8 +1,8 @@
 use Rattle.std.proofs.Common.{◌≡◌, ◌≤◌, ◌∷◌, [], Some, suc, refl, drop, length, ap, sym, arith, ◌∙◌}
 use Rattle.cv_syntax.specs.PoolTrees.{tree_at}
 use Rattle.cv_syntax.proofs.Trees.{child_live, empty_at}
-use Rattle.cv_derive_rules.specs.Ends.{is_end, same_statement}
-use Rattle.cv_derive_rules.specs.Lines.{Holds, lines_of, statements}
+use Rattle.cv_scene.specs.lines.Ends.{is_end, same_statement}
+use Rattle.cv_scene.specs.lines.Lines.{Holds, lines_of, statements}
 use Rattle.cv_derive_lines.specs.Views.{statement_of}
 use Rattle.cv_query_entries.proofs.ends.Ending.{no_end, nothing_last, one_last}
 use Rattle.cv_query_entries.proofs.ends.Lines.{nothing_said, said_at, said_behind}

@@ -3,7 +3,7 @@ use Rattle.cv_pool.specs.Nodes.{ChildBelow}
 use Rattle.cv_syntax.specs.PoolTrees.{tree_at}
 use Rattle.cv_syntax.specs.Walks.{above}
 use Rattle.cv_meaning.specs.Correspondences.{leaf_names}
-use Rattle.cv_derive_rules.specs.Given.{term_for}
+use Rattle.cv_scene.specs.lines.Given.{term_for}
 use Rattle.cv_query_entries.proofs.terms.given.argument.Given as goal
 
 abbrev pub invariant-variables : goal.invariant-variables

@@ -1,7 +1,7 @@
 use Rattle.std.proofs.Common.{◌≡◌, length, drop}
 use Rattle.cv_pool.specs.Nodes.{ChildBelow}
 use Rattle.cv_syntax.specs.PoolTrees.{tree_at}
-use Rattle.cv_derive_rules.specs.Given.{term_for}
+use Rattle.cv_scene.specs.lines.Given.{term_for}
 use Rattle.cv_query_entries.specs.terms.Given.{names_in}
 use Rattle.cv_query_entries.proofs.terms.given.other_term.Given as goal
 

@@ -5,7 +5,7 @@ use Rattle.cv_syntax.specs.Walks.{above}
 use Rattle.cv_syntax.specs.limits.Limits.{nodes_of}
 use Rattle.cv_syntax.proofs.Trees.{child_above, child_live, empty_at, node_at, tree_at_None}
 use Rattle.cv_syntax.proofs.Walking.{above_child, above_some, size_at, size_end}
-use Rattle.cv_derive_rules.specs.Truths.{no}
+use Rattle.cv_scene.specs.lines.Truths.{no}
 use Rattle.cv_edit_places.specs.Parts.{stack_of}
 use Rattle.cv_scene_view.specs.phrases.Phrases.{both, phrase_of}
 use Rattle.cv_rule_birthday.specs.Comparing.{is_one_of}

@@ -1,6 +1,6 @@
 use Rattle.std.proofs.Common.{◌≤◌, ℕ, IfSome, List}
 use Rattle.cv_pool.specs.KindTree.{KindTree}
-use Rattle.cv_derive_rules.specs.Lines.{Lines}
+use Rattle.cv_scene.specs.lines.Lines.{Lines}
 use Rattle.cv_derive_lines.specs.citing.Bookmarks.{AreLines, IsKept}
 use Rattle.cv_derive_lines.proofs.citing.bookmarks.Bookmarks.last_through.Given as goal
 

@@ -1,7 +1,0 @@
-use Rattle.cv_accept_laws.proofs.kernel.sequences.OneSequence.{alike}
-use Rattle.cv_accept_laws.proofs.kernel.sequences.accepted_steps_lead_to_one_sequence.Goals as goal
-
-pub returns : goal.returns
-returns c = λ found ds known own first g h ts us before after other apart p q steps k l.
-    let r = alike found ds known own first g h ts us before after other apart p q steps k l in
-    (r.one, r.names)

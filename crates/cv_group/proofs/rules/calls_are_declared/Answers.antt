@@ -1,5 +1,0 @@
-use Rattle.cv_group.proofs.rules.Calls.{accepted_calls}
-use Rattle.cv_group.proofs.rules.calls_are_declared.Goals as goal
-
-pub returns : goal.returns
-returns c = λ symbols t which f a e. accepted_calls symbols t which f a e

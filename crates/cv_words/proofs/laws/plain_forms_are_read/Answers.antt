@@ -1,5 +1,0 @@
-use Rattle.cv_words.proofs.Plain.{plain_is_read}
-use Rattle.cv_words.proofs.laws.plain_forms_are_read.Goals as goal
-
-pub returns : goal.returns
-returns c = plain_is_read

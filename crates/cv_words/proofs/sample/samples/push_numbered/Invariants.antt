@@ -1,6 +1,0 @@
-use Rattle.std.proofs.Common.{◌≡◌, ◌++◌, take, flat_map}
-use Rattle.cv_words.specs.sample.Samples.{mark_of}
-use Rattle.cv_words.proofs.sample.samples.push_numbered.Given as goal
-
-abbrev pub invariant-marks : goal.invariant-marks
-invariant-marks l = l.out.items ≡ l.fn.out.items ++ flat_map (mark_of l.fn.number) (take l.k l.text)
