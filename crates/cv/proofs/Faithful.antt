@@ -11,19 +11,24 @@ use Rattle.cv_syntax_trees.specs.Tree.{Tree}
 use Rattle.cv_syntax.specs.PoolTrees.{tree_at}
 use Rattle.cv_accept.specs.Accepted.{Content, read_of, most_bytes, most_pool}
 use Rattle.cv_bound.specs.declared.terms.Experiment.TheVariants.{Events}
-use Rattle.cv_bound.specs.Sums.{added, with_terms}
-use Rattle.cv_bound.specs.declared.cost.Cost.TheVariants as bound
+use Rattle.cv_bound.specs.Sums.{added}
+use Rattle.cv_bound.specs.costs.Sums.{no_sums, sum_for, with_cost}
+use Rattle.cv_bound.specs.declared.cost.Cost.{Cost as SumCost}
+use Rattle.cv_bound.specs.declared.costs.sums.Sums.{Sums}
 use Rattle.cv_bound.specs.declared.terms.Term.{Term}
-use Rattle.cv_steps.specs.values.Values.{Advantages, sum_value}
+use Rattle.cv_steps.specs.values.Values.{Advantages, cost_value, sum_value}
 use Rattle.cv_meaning.specs.Advantage.{chance_of}
 use Rattle.cv_meaning.specs.Chances.{AtMost, distance}
 use Rattle.cv_meaning.specs.Experiments.{Experiment}
 use Rattle.cv_meaning.specs.Interpretation.{Interpretation, setting_of}
 use Rattle.cv_meaning.specs.Runs.{Adversary}
 use Rattle.cv_meaning.specs.contexts.Sides.{Context}
+use Rattle.cv_meaning.specs.Satisfies.{Satisfies}
 use Rattle.cv_meaning_chances.specs.Fractions.{HasTapes}
+use Rattle.cv_meaning_chances.proofs.FractionLaws.{at_most_trans}
+use Rattle.cv_costs.specs.Certificates.{cost_of_certificate}
 use Rattle.cv_kernel.specs.Closings.{Closing, closing_in, closing_of_items}
-use Rattle.cv_kernel.specs.Proofs.{IsProof, IsTransition, Transition, closed_by, game_behind, push, start}
+use Rattle.cv_kernel.specs.Proofs.{IsProof, IsTransition, Transition, closed_by, game_behind, push, start, sums_behind}
 use Rattle.cv_kernel.specs.Sayings.{Accepted, MaySay}
 use Rattle.cv_report.specs.declared.report.Entry.{Entry}
 use Rattle.cv_report.specs.declared.report.Report.{Report}
@@ -33,7 +38,8 @@ use Rattle.cv_script.specs.Views.{items_of_step}
 use Rattle.cv_script.specs.Views as items
 use Rattle.cv_sequences.specs.Chains.{ByEquivalence, ByStep, HasPrice, IsChain, IsFileOf, IsLink, Link, Prices, cost_behind, costs_behind, game_after, next_behind, summed}
 use Rattle.cv_sequences.specs.Chains as chains
-use Rattle.cv_sequences.proofs.Chains.{chain_ends, has_tapes, taped as taped_sum, valued as valued_along, within}
+use Rattle.cv_sequences.proofs.Chains.{chain_ends, games_ready, has_tapes, summed_put, taped as taped_sum, valued as valued_along, within}
+use Rattle.cv_sequences.proofs.costs.Costs.{cost_worth}
 use Rattle.cv_steps.specs.Sequences.{scene}
 use Rattle.cv_steps_laws.specs.crypto.Conditions.{equivalence_of}
 use Rattle.cv_steps_laws.specs.crypto.Steps.{reduction_of}
@@ -48,9 +54,13 @@ use Rattle.cv.specs.Values.{Contexts, advantage_of, advantages_in, context_of}
 use Rattle.cv_sequences.specs.secrets.Sums.{summed_by}
 use Rattle.cv_sequences.proofs.secrets.Sums.{plain, put}
 use Rattle.cv_sequences.proofs.files.kernel.rules.Sound.{sound}
+use Rattle.cv_follow.specs.Walks.{sums_along}
+use Rattle.cv_follow.proofs.Closings.{sum_put}
 use Rattle.cv_follow.proofs.StepKinds.{Kind, closure, kind_of, passage, reduction}
 use Rattle.cv_follow.proofs.StepKinds as kind
 use Rattle.cv_sequences.proofs.files.Ready.{file_of, taped, valued}
+use Rattle.cv_accept.proofs.Readings.{accepted}
+use Rattle.cv.proofs.Costing.{AreDecided, AreNumbers, HaveTapedClosings, IsNoLess, both_more, closings_taped, one_more}
 use Rattle.cv.proofs.Naming.{named_in, same_names}
 use Rattle.cv.proofs.Taped.{HaveTapedContexts, HaveValues, taped_prices}
 
@@ -117,15 +127,23 @@ module _ (ds : List Declaration) (known : ℕ → Bool) (first : Tree) where
         }
   ]
 
--- a cost more, for secrecy or not
-pub summed_on : (b : Bool) (before : List Transition) (t : Transition) → summed_by b [] (map (λ x. x.cost) (before ++ t ∷ [])) ≡ added (summed_by b [] (map (λ x. x.cost) before)) t.cost b
-summed_on b before t = ap (summed_by b []) (map-append (λ x. x.cost) before (t ∷ [])) ∙ put b [] (map (λ x. x.cost) before) t.cost
+-- the sums of steps that close no query, with a step more
 
--- a cost that is nothing changes no sum
-nothing_put : (b : Bool) (sum : List Term) → added sum bound.Zero b ≡ sum
-unfolding with_terms
-nothing_put true sum = refl
-nothing_put false sum = refl
+nothing_summed : (b : Bool) → summed_by b [] [] ≡ sum_for b no_sums
+unfolding summed_by
+nothing_summed true = refl
+nothing_summed false = refl
+
+pub cost_for : (b : Bool) (sums : Sums) (c : SumCost) → sum_for b (with_cost sums c) ≡ added (sum_for b sums) c b
+cost_for true sums c = refl
+cost_for false sums c = refl
+
+sums_changed : (b : Bool) (before : List Transition) (t : Transition) → closing_in t.step ≡ None → sum_for b (sums_along no_sums (before ++ t ∷ [])) ≡ added (sum_for b (sums_along no_sums before)) t.cost b
+sums_changed b before t n =
+    ap (sum_for b) (sum_put no_sums before t ∙ ap (λ o. sums_behind (sums_along no_sums before) o t.cost) n) ∙ cost_for b (sums_along no_sums before) t.cost
+
+sums_closed : (before : List Transition) (t : Transition) (c : Closing) → closing_in t.step ≡ Some c → sums_along no_sums (before ++ t ∷ []) ≡ sums_along no_sums before
+sums_closed before t c n = sum_put no_sums before t ∙ ap (λ o. sums_behind (sums_along no_sums before) o t.cost) n
 
 -- contexts by the numbers of their steps
 
@@ -236,28 +254,28 @@ link_of ds own cs n ks game t none there i (kind.judged j (kind.changes c)) =
     record { link = ByStep p.rule.step p.price t.next; leads = (sound p.told p.rule p.ruled, p.accepted); next = refl; costs = p.costs; context = tt }
 link_of ds own cs n ks game t none there i (kind.judged j (kind.closes k by q)) = absurd (let z = sym none ∙ ap (option_and_then closing_of_items) q in cc)
 
--- the steps of a proof that change the game are the links of a chain, with the same sum, whose contexts are those of the whole proof
+-- the steps of a proof that change the game are the links of a chain, with the sum of these steps, whose contexts are those of the whole proof
 
 pub record HasLinks (ds : List Declaration) (own : ℕ) (first : Tree) (cs : Contexts) (ts : List Transition) (last : Tree) : Type 0 where
   pub links : List Link
   pub chain : IsChain ds (known_to own) first links last
   pub contexts : HaveContexts ds own cs first links
-  pub sums : (b : Bool) → summed_by b [] (costs_behind links) ≡ summed_by b [] (map (λ t. t.cost) ts)
+  pub sums : (b : Bool) → summed_by b [] (costs_behind links) ≡ sum_for b (sums_along no_sums ts)
 
 module _ (ds : List Declaration) (own : ℕ) (first : Tree) where
   abbrev at : Tree → Scene
   at game = scene ds (known_to own) game
 
   module _ (cs : Contexts) (before : List Transition) (game : Tree) (t : Transition) (h : HasLinks ds own first cs before game) where
-    link_more : HasLink ds own cs game t → HasLinks ds own first cs (before ++ t ∷ []) t.next
-    link_more k = record {
+    link_more : closing_in t.step ≡ None → HasLink ds own cs game t → HasLinks ds own first cs (before ++ t ∷ []) t.next
+    link_more n k = record {
       links = h.links ++ k.link ∷ [];
       chain = subst (IsChain ds (known_to own) first (h.links ++ k.link ∷ [])) k.next (chains.push h.links game k.link h.chain k.leads);
       contexts = contexts_put ds own cs first h.links k.link h.contexts (subst (λ g. HasContext cs (at g) k.link) (sym (chain_ends ds (known_to own) first h.links game h.chain)) k.context);
       sums = λ b.
           ap (summed_by b []) (map-append cost_behind h.links (k.link ∷ []))
           ∙ (put b [] (costs_behind h.links) (cost_behind k.link)
-          ∙ (ap₂ (λ sum c. added sum c b) (h.sums b) (sym k.costs) ∙ sym (summed_on b before t)));
+          ∙ (ap₂ (λ sum c. added sum c b) (h.sums b) (sym k.costs) ∙ sym (sums_changed b before t n)));
     }
 
     -- a step that closes a query is none
@@ -268,14 +286,11 @@ module _ (ds : List Declaration) (own : ℕ) (first : Tree) where
           links = h.links;
           chain = subst (IsChain ds (known_to own) first h.links) (sym k.game) h.chain;
           contexts = h.contexts;
-          sums = λ b.
-              h.sums b
-              ∙ (sym (nothing_put b (summed_by b [] (map (λ x. x.cost) before)))
-              ∙ (ap (λ z. added (summed_by b [] (map (λ x. x.cost) before)) z b) (sym k.costs) ∙ sym (summed_on b before t)));
+          sums = λ b. h.sums b ∙ sym (ap (sum_for b) (sums_closed before t c n));
         }
 
     link_by : (o : Option Closing) → closing_in t.step ≡ o → HasContextAt ds own cs (suc (length before)) game t → IsTransition ds (known_to own) (suc (length before)) (closed_by before) game t → HasLinks ds own first cs (before ++ t ∷ []) t.next
-    link_by None n there i = link_more (link_of ds own cs (suc (length before)) (closed_by before) game t n there i (kind_of (items_of_step t.step)))
+    link_by None n there i = link_more n (link_of ds own cs (suc (length before)) (closed_by before) game t n there i (kind_of (items_of_step t.step)))
     link_by (Some c) n there i = link_none c n i
 
   -- the games of a proof
@@ -294,26 +309,64 @@ module _ (ds : List Declaration) (own : ℕ) (first : Tree) where
       sym (ap (context_of (contexts_along ds own 1 first (before ++ t ∷ rest))) n) ∙ context_at ds own 1 first before t rest c (ap (λ g. context_by ds own g t.step) (along_is before game p) ∙ e)
 
   pub links_of : (ts : List Transition) (last : Tree) → IsProof ds (known_to own) first ts last → (rest : List Transition) → HasLinks ds own first (contexts_along ds own 1 first (ts ++ rest)) ts last
-  links_of ts last start rest = record { links = []; chain = chains.start; contexts = tt; sums = λ b. refl }
+  links_of ts last start rest = record { links = []; chain = chains.start; contexts = tt; sums = nothing_summed }
   links_of ts last (push before game t p i) rest =
       let cs = contexts_along ds own 1 first (before ++ t ∷ rest) in
       subst (λ all. HasLinks ds own first (contexts_along ds own 1 first all) (before ++ t ∷ []) t.next) (sym (append_assoc before (t ∷ []) rest))
       (link_by cs before game t (links_of before game p (t ∷ rest)) (closing_in t.step) refl (context_numbered before game p t rest) i)
 
+  -- what steps cost that close queries makes the sum no less
+  module _ (w : IsFileOf ds own first) (closings : HaveTapedClosings ds own) (i : Interpretation) (sat : Satisfies ds i) (advantages : Advantages) where
+    closing_worth : (before : List Transition) (game : Tree) → IsProof ds (known_to own) first before game → (t : Transition) (c : Closing) → closing_in t.step ≡ Some c → IsTransition ds (known_to own) (suc (length before)) (closed_by before) game t → HasTapes (cost_value i advantages t.cost false)
+    closing_worth before game p t c n j =
+        let h = links_of before game p [] in
+        let k = closure (at game) (closed_by before) (suc (length before)) t.step c t.next t.cost n j.accepted in
+        let worth = closings game (games_ready ds own first w h.links game h.chain) (closed_by before) c k.passes i sat in
+        subst (λ z. HasTapes (cost_value i advantages z false)) (sym k.costs) (subst HasTapes (sym (cost_worth i advantages (cost_of_certificate (at game) c.certificate))) worth)
+
+    abbrev changed : List Transition → List Term
+    changed ts = sum_for false (sums_along no_sums ts)
+
+    abbrev all : List Transition → List Term
+    all ts = summed [] (map (λ t. t.cost) ts)
+
+    all_put : (before : List Transition) (t : Transition) → all (before ++ t ∷ []) ≡ added (all before) t.cost false
+    all_put before t = ap (summed []) (map-append (λ x. x.cost) before (t ∷ [])) ∙ summed_put [] (map (λ x. x.cost) before) t.cost
+
+    more_by : (before : List Transition) (game : Tree) → IsProof ds (known_to own) first before game → (t : Transition) → IsTransition ds (known_to own) (suc (length before)) (closed_by before) game t → (HasTapes (sum_value i advantages (changed before)) → IsNoLess i advantages (changed before) (all before))
+        → HasTapes (sum_value i advantages (changed (before ++ t ∷ []))) → (o : Option Closing) → closing_in t.step ≡ o → IsNoLess i advantages (changed (before ++ t ∷ [])) (all (before ++ t ∷ []))
+    more_by before game p t j f h None n =
+        let e = sums_changed false before t n in
+        subst (IsNoLess i advantages (changed (before ++ t ∷ []))) (sym (all_put before t))
+        (subst (λ z. IsNoLess i advantages z (added (all before) t.cost false)) (sym e)
+        (both_more i advantages (changed before) (all before) t.cost (subst (λ z. HasTapes (sum_value i advantages z)) e h) f))
+    more_by before game p t j f h (Some c) n =
+        let e : changed (before ++ t ∷ []) ≡ changed before = ap (sum_for false) (sums_closed before t c n) in
+        subst (IsNoLess i advantages (changed (before ++ t ∷ []))) (sym (all_put before t))
+        (subst (λ z. IsNoLess i advantages z (added (all before) t.cost false)) (sym e)
+        (one_more i advantages (changed before) (all before) t.cost (closing_worth before game p t c n j) (f (subst (λ z. HasTapes (sum_value i advantages z)) e h))))
+
+    costs_more : (ts : List Transition) (last : Tree) → IsProof ds (known_to own) first ts last → HasTapes (sum_value i advantages (changed ts)) → IsNoLess i advantages (changed ts) (all ts)
+    unfolding summed
+    costs_more ts last start h = record { taped = h; more = omega arith }
+    costs_more ts last (push before game t p j) h = more_by before game p t j (costs_more before game p) h (closing_in t.step) refl
+
   -- so no adversary tells its games
-  pub close : IsFileOf ds own first → HaveValues ds first → HaveTapedContexts ds own → (ts : List Transition) (last : Tree) → IsProof ds (known_to own) first ts last → (rest : List Transition) → IsWithin ds (contexts_along ds own 1 first (ts ++ rest)) first last (summed [] (map (λ t. t.cost) ts))
-  close w values taped ts last p rest = λ i sat x q a.
+  pub close : IsFileOf ds own first → HaveValues ds first → HaveTapedContexts ds own → HaveTapedClosings ds own → (ts : List Transition) (last : Tree) → IsProof ds (known_to own) first ts last → (rest : List Transition) → IsWithin ds (contexts_along ds own 1 first (ts ++ rest)) first last (summed [] (map (λ t. t.cost) ts))
+  close w values taped closings ts last p rest = λ i sat x q a.
       let cs = contexts_along ds own 1 first (ts ++ rest) in
       let h = links_of ts last p rest in
       let v = values i sat x q in
       let advantages = advantages_in ds i cs x a in
       let priced = prices ds own cs i x a advantages (λ n. refl) first h.links h.contexts in
-      let sum = sym (plain [] (costs_behind h.links)) ∙ (h.sums false ∙ plain [] (map (λ t. t.cost) ts)) in (
+      let sum = sym (plain [] (costs_behind h.links)) ∙ h.sums false in
+      let worth = subst (λ s. HasTapes (sum_value i advantages s)) sum (taped_sum ds (known_to own) first h.links last h.chain i sat advantages (taped_prices ds own first taped i sat x a advantages (valued_along ds own first w i sat x q v) h.links last h.chain priced)) in
+      let near = subst (λ s. AtMost (distance (chance_of (setting_of ds i) x a first) (chance_of (setting_of ds i) x a last)) (sum_value i advantages s)) sum (within ds own first w i sat x q v a advantages h.links last h.chain priced) in
+      let all = costs_more w closings i sat advantages ts last p worth in (
         has_tapes ds own first w i sat x q v a [] first chains.start,
         has_tapes ds own first w i sat x q v a h.links last h.chain,
-        subst (λ s. HasTapes (sum_value i advantages s)) sum (taped_sum ds (known_to own) first h.links last h.chain i sat advantages (taped_prices ds own first taped i sat x a advantages (valued_along ds own first w i sat x q v) h.links last h.chain priced)),
-        subst (λ s. AtMost (distance (chance_of (setting_of ds i) x a first) (chance_of (setting_of ds i) x a last)) (sum_value i advantages s)) sum
-            (within ds own first w i sat x q v a advantages h.links last h.chain priced),
+        all.taped,
+        at_most_trans (distance (chance_of (setting_of ds i) x a first) (chance_of (setting_of ds i) x a last)) (sum_value i advantages (sum_for false (sums_along no_sums ts))) (sum_value i advantages (summed [] (map (λ t. t.cost) ts))) worth near all.more,
       )
 
 -- the trail of a report
@@ -371,11 +424,11 @@ AreClose r f =
     (k : ℕ) (e : Entry) (g : Game) → slice_get r.trail.items k ≡ Some e → e.next ≡ Some g
     → IsWithin (declared_in r) (contexts_in r) (game_in r f) (tree_at r.work.pool.trees (Some g.root)) (summed [] (map (λ x. x.cost) (take (k + 1) r.trail.items)))
 
-module _ (holds : (ds : List Declaration) → DerivationsHold ds) (unreached : (ds : List Declaration) → DerivedBodiesAreUnreached ds) (c : Content) (f : File) (r : Report) (bytes : List ℕ) (reads : read_of most_pool bytes ≡ Ok c) (few : length bytes ≤ most_bytes) where
+module _ (holds : (ds : List Declaration) → DerivationsHold ds) (unreached : (ds : List Declaration) → DerivedBodiesAreUnreached ds) (numbers : AreNumbers) (decided : AreDecided) (c : Content) (f : File) (r : Report) (bytes : List ℕ) (reads : read_of most_pool bytes ≡ Ok c) (few : length bytes ≤ most_bytes) where
   close_content : (ts : List Transition) (last : Tree) → IsProof c.declarations (known_to c.own) c.game ts last → (rest : List Transition) → IsWithin c.declarations (contexts_along c.declarations c.own 1 c.game (ts ++ rest)) c.game last (summed [] (map (λ t. t.cost) ts))
   close_content ts last p rest =
       let w = file_of bytes c reads holds unreached few in
-      close c.declarations c.own c.game w (valued bytes c reads w.ready) (taped bytes c reads) ts last p rest
+      close c.declarations c.own c.game w (valued bytes c reads w.ready) (taped bytes c reads) (closings_taped c.declarations c.own c.game (accepted most_pool bytes c reads).asked numbers decided) ts last p rest
 
   steps_close : r.file ≡ Some f → file_in r f (length c.names) ≡ c → TakesSteps r f → AreClose r f
   steps_close there held w k e g h n =

@@ -14,6 +14,7 @@ pub mod Walking
 pub mod Writing
 pub mod Ended
 pub mod Closers
+pub mod Costing
 pub mod Taped
 pub mod Stepping
 pub mod Bounded

@@ -1,14 +1,19 @@
 -- A query that a proof closes holds up to its sum.
-use Rattle.std.proofs.Common.{◌≡◌, ℕ, suc, ◌+◌, ◌≤◌, append-nil, Bool, true, false, if◌then◌else◌, List, [], length, map, drop, take, refl, ap, ap₂, sym, ◌∙◌, subst, arith, Option, Some, None, Ok, inl, inr}
-use Rattle.std.specs.Prelude.{◌↔◌, Contains, slice_get}
+use Rattle.std.proofs.Common.{◌≡◌, ℕ, suc, ◌+◌, ◌≤◌, append-nil, Bool, true, false, if◌then◌else◌, List, [], length, map, drop, take, refl, ap, ap₂, sym, ◌∙◌, subst, arith, mul-pos, Option, Some, None, Ok, inl, inr}
+use Rattle.std.specs.Prelude.{Contains, slice_get}
 use Rattle.std.specs.List.{list_any}
+use Rattle.std.proofs.lemmas.Bool.{both_ways}
 use Rattle.std.proofs.lemmas.List.{take-append-drop}
 use Rattle.cv_syntax_trees.specs.declared.head.Head.TheVariants.{EventsCertificate, Query, Secret, SecretCertificate, SecretOnce}
 use Rattle.cv_syntax_trees.specs.Declarations.{Declaration}
 use Rattle.cv_syntax_trees.specs.Tree.{Tree, Empty, Node}
 use Rattle.cv_bound.specs.declared.terms.Term.{Term}
 use Rattle.cv_bound.specs.Sums.{added}
-use Rattle.cv_steps.specs.values.Values.{sum_value}
+use Rattle.cv_steps.specs.values.Values.{cost_value, sum_value}
+use Rattle.cv_steps.specs.Costs.{cost_of}
+use Rattle.cv_steps.proofs.values.Adding.{tapes_are_kept}
+use Rattle.cv_derive_laws.specs.stores.Costs.{bound_of}
+use Rattle.cv_costs.specs.Certificates.{cost_of_certificate}
 use Rattle.cv_meaning.specs.Advantage.{chance_of, secrecy, secrecy_query}
 use Rattle.cv_meaning.specs.Chances.{AtMost, zero_chance}
 use Rattle.cv_meaning.specs.Experiments.{Breaks, Experiment, Guesses}
@@ -35,14 +40,14 @@ use Rattle.cv_script.specs.Views.{items_of_step}
 use Rattle.cv_derive_laws.specs.stores.Holding.{IsReady}
 use Rattle.cv_derive_laws.specs.stores.Soundness.{DerivationsHold, DerivedBodiesAreUnreached}
 use Rattle.cv_steps.specs.Sequences.{scene}
-use Rattle.cv_sequences.specs.Chains.{IsChain, IsFileOf, Link, costs_behind}
-use Rattle.cv_sequences.proofs.Chains.{carried, games_ready, taped as taped_sum}
-use Rattle.cv_bound.specs.declared.cost.Cost.{Cost as SumCost}
+use Rattle.cv_sequences.specs.Chains.{IsChain, IsFileOf, Link, costs_behind, summed}
+use Rattle.cv_sequences.proofs.Chains.{games_ready, taped as taped_sum}
+use Rattle.cv_sequences.proofs.bounds.Bounds.{carried_cost}
+use Rattle.cv_sequences.proofs.costs.Costs.{cost_worth}
+use Rattle.cv_bound.specs.declared.cost.Cost.TheVariants as bound
 use Rattle.cv_bound.specs.declared.terms.Experiment.{Experiment as TermExperiment}
 use Rattle.cv_bound.specs.declared.terms.Experiment.TheVariants as term
 use Rattle.cv_bound.specs.costs.Sums.{no_sums, sum_for, with_cost}
-use Rattle.cv_bound.specs.declared.costs.sums.Sums.{Sums}
-use Rattle.cv_sequences.specs.secrets.Sums.{summed_by}
 use Rattle.cv_sequences.proofs.secrets.Sums.{plain}
 use Rattle.cv_sequences.proofs.secrets.Secrets.{carried as carried_secret, taped as taped_secret, valued}
 use Rattle.cv_query_certificates.specs.Secrets.{AreUnreadChoices, AreUnreadCopies, IsSecret}
@@ -53,7 +58,7 @@ use Rattle.cv_accept.proofs.Readings.{accepted}
 use Rattle.cv.proofs.Closers.{Closes, closed_at, closing_items, contains_at, first_closing, is_false, none_fails, verdict_at}
 use Rattle.cv_bound.specs.closings.Queries.{is_among}
 use Rattle.cv_kernel.specs.Closings.{Closing, closing_failure, closing_in, is_secret}
-use Rattle.cv_kernel.specs.Proofs.{IsProof, IsTransition, Transition, closed_by, push, start, sum_of, sums_behind}
+use Rattle.cv_kernel.specs.Proofs.{IsProof, IsTransition, Transition, closed_by, sum_of}
 use Rattle.cv.specs.Contexts.{contexts_in}
 use Rattle.cv.specs.Runs.{IsBounded, IsSoundFor}
 use Rattle.cv_follow.specs.Scripts.{known_to}
@@ -62,25 +67,23 @@ use Rattle.cv.specs.Strategy.{FollowsScript, FollowsStrategy, Proceeds, Proceeds
 use Rattle.cv.proofs.OpenQueries.{none_proved}
 use Rattle.cv.specs.Values.{Contexts, advantage_of, advantages_of, context_of, is_once, secret_of, value_of}
 use Rattle.cv_follow.specs.Walks.{sums_along}
-use Rattle.cv_follow.proofs.Closings.{nothing_more, sum_put}
+use Rattle.cv_follow.proofs.Closings.{nothing_more}
 use Rattle.cv.proofs.Taped.{HaveTapedContexts, HaveValues, taped_prices}
-use Rattle.cv.proofs.Faithful.{HasLinks, StandsIn, contexts_along, links_of, prices, contexts_taken, stands_in, summed_on}
+use Rattle.cv.proofs.Costing.{AreDecided, AreNumbers}
+use Rattle.cv.proofs.Faithful.{HasLinks, StandsIn, contexts_along, contexts_taken, cost_for, links_of, prices, stands_in}
 use Rattle.cv_follow.proofs.StepKinds.{IsClosure, closure}
 use Rattle.cv_sequences.proofs.files.Ready.{events_valued, file, file_of, taped, valued as valued_file}
 
 -- what laws say of certificates that are accepted
 
-abbrev pub AreNeverBroken : Type 0
-AreNeverBroken = (s : Scene) (query certificate : Tree) → IsProved s query certificate → (i : Interpretation) → Satisfies s.declarations i → (a : Adversary) → AtMost (chance_of (setting_of s.declarations i) (Breaks query) a s.game) zero_chance
+abbrev pub AreWithinCosts : Type 0
+AreWithinCosts = (s : Scene) (query certificate : Tree) → IsProved s query certificate → (i : Interpretation) → Satisfies s.declarations i → (a : Adversary) → AtMost (chance_of (setting_of s.declarations i) (Breaks query) a s.game) (bound_of i (cost_of_certificate s certificate))
 
 abbrev pub AreSecretChoices : Type 0
 AreSecretChoices = (s : Scene) (x : ℕ) → IsWellFormed s.declarations s.game → AreUnreadChoices s.game x → (i : Interpretation) (one : Bool) (a : Adversary) → AtMost (secrecy (setting_of s.declarations i) one x a s.game) zero_chance
 
 abbrev pub AreSecretCopies : Type 0
 AreSecretCopies = (s : Scene) (x : ℕ) → IsReady s.declarations s.game → AreUnreadCopies s x → (i : Interpretation) (a : Adversary) → AtMost (secrecy (setting_of s.declarations i) true x a s.game) zero_chance
-
-abbrev pub AreDecided : Type 0
-AreDecided = (s : Scene) (query certificate : Tree) → is_built query certificate ≡ true → IsAccepted s query certificate ↔ (first_failure s (Some query) certificate ≡ None)
 
 -- a certificate of events is none of secrecy, and one of secrecy is
 
@@ -92,20 +95,14 @@ of_secret : (once : Bool) (s : Scene) (x : ℕ) (certificate : Tree) → IsSecre
 of_secret once s x (Node SecretCertificate Empty e) h = (refl, h)
 of_secret once s x certificate h = absurd h
 
--- sums of no cost, and with a cost more
-
-nothing_for : (b : Bool) → sum_for b no_sums ≡ summed_by b [] []
-unfolding summed_by
-nothing_for true = refl
-nothing_for false = refl
-
-cost_for : (b : Bool) (sums : Sums) (c : SumCost) → sum_for b (with_cost sums c) ≡ added (sum_for b sums) c b
-cost_for true sums c = refl
-cost_for false sums c = refl
+-- one of secrecy costs nothing
+secret_free : (s : Scene) (certificate : Tree) → is_secret certificate ≡ true → cost_of (cost_of_certificate s certificate) ≡ bound.Zero
+secret_free s (Node SecretCertificate parts e) k = refl
+secret_free s certificate k = absurd (both_ways _ refl k)
 
 module _ (ds : List Declaration) (own : ℕ) (first : Tree) (w : IsFileOf ds own first) (closed : HasClosedQueries ds) (asked : AreAsked first (queries_in ds))
     (values : HaveValues ds first) (taped : HaveTapedContexts ds own)
-    (never : AreNeverBroken) (chosen : AreSecretChoices) (copied : AreSecretCopies) (decided : AreDecided) where
+    (costs : AreWithinCosts) (numbers : AreNumbers) (chosen : AreSecretChoices) (copied : AreSecretCopies) (decided : AreDecided) where
   built_by : (t : Tree) (c : Closing) (query : Tree) → closing_in t ≡ Some c → from_one (queries_in ds) c.query ≡ Some query → is_unbuilt_step (queries_in ds) t ≡ false → is_built query c.certificate ≡ true
   built_by t c query n q e =
       is_false (is_built query c.certificate)
@@ -120,29 +117,8 @@ module _ (ds : List Declaration) (own : ℕ) (first : Tree) (w : IsFileOf ds own
   at game = scene ds (known_to own) game
 
   -- the step that closes a query keeps the game
-  closes_so : (n : ℕ) (ks : List ℕ) (game : Tree) (t : Transition) (c : Closing) → closing_in t.step ≡ Some c → IsTransition ds (known_to own) n ks game t → IsClosure (at game) (closing_failure (at game) ks c) t.next t.cost
+  closes_so : (n : ℕ) (ks : List ℕ) (game : Tree) (t : Transition) (c : Closing) → closing_in t.step ≡ Some c → IsTransition ds (known_to own) n ks game t → IsClosure (at game) c (closing_failure (at game) ks c) t.next t.cost
   closes_so n ks game t c e i = closure (at game) ks n t.step c t.next t.cost e i.accepted
-
-  -- the sums along transitions are those of all their costs, as those that close a query cost nothing
-  costs_nothing : (n : ℕ) (ks : List ℕ) (game : Tree) (t : Transition) (c : Closing) (sums : Sums) → closing_in t.step ≡ Some c → IsTransition ds (known_to own) n ks game t → with_cost sums t.cost ≡ sums
-  costs_nothing n ks game t c sums e i = ap (with_cost sums) (closes_so n ks game t c e i).costs ∙ nothing_more sums
-
-  behind_by : (n : ℕ) (ks : List ℕ) (game : Tree) (t : Transition) (sums : Sums) (o : Option Closing) → closing_in t.step ≡ o → IsTransition ds (known_to own) n ks game t → sums_behind sums o t.cost ≡ with_cost sums t.cost
-  behind_by n ks game t sums None e i = refl
-  behind_by n ks game t sums (Some c) e i = sym (costs_nothing n ks game t c sums e i)
-
-  sums_alike : (b : Bool) (ts : List Transition) (last : Tree) → IsProof ds (known_to own) first ts last → sum_for b (sums_along no_sums ts) ≡ summed_by b [] (map (λ t. t.cost) ts)
-  sums_alike b ts last start = nothing_for b
-  sums_alike b ts last (push before game t p i) =
-      ap (sum_for b) (sum_put no_sums before t ∙ behind_by (suc (length before)) (closed_by before) game t (sums_along no_sums before) (closing_in t.step) refl i)
-      ∙ (cost_for b (sums_along no_sums before) t.cost
-      ∙ (ap (λ x. added x t.cost b) (sums_alike b before game p) ∙ sym (summed_on b before t)))
-
-  sum_here : (b : Bool) (ts : List Transition) (n : ℕ) (s : List Term) (here : Transition) (c : Closing) (game : Tree) → IsProof ds (known_to own) first (take n ts) game → closing_in here.step ≡ Some c → IsTransition ds (known_to own) (suc (length (take n ts))) (closed_by (take n ts)) game here → s ≡ sum_for b (with_cost (sums_along no_sums (take n ts)) here.cost)
-      → summed_by b [] (map (λ t. t.cost) (take n ts)) ≡ s
-  sum_here b ts n s here c game p e i u =
-      sym (sums_alike b (take n ts) game p)
-      ∙ (ap (sum_for b) (sym (costs_nothing (suc (length (take n ts))) (closed_by (take n ts)) game here c (sums_along no_sums (take n ts)) e i)) ∙ sym u)
 
   -- the transition that closes a query first, in its game, with the links to it
   module _ (ts : List Transition) (last : Tree) (p : IsProof ds (known_to own) first ts last) (k : ℕ) (s : List Term) (c : Closes no_sums ts k s) where
@@ -161,25 +137,36 @@ module _ (ds : List Declaration) (own : ℕ) (first : Tree) (w : IsFileOf ds own
     ready_here : (h : HasLinks ds own first cs front here.game) → IsReady ds here.game
     ready_here h = games_ready ds own first w h.links here.game h.chain
 
-    -- a correspondence
-    breaks : (h : HasLinks ds own first cs front here.game) (query certificate : Tree) → IsProved (at here.game) query certificate → Contains (queries_in ds) query → s ≡ sum_for false (with_cost (sums_along no_sums front) c.here.cost) → (i : Interpretation) → Satisfies ds i → (a : Adversary)
+    closes : IsClosure (at here.game) c.closing (closing_failure (at here.game) (closed_by front) c.closing) c.here.next c.here.cost
+    closes = closes_so (suc (length front)) (closed_by front) here.game c.here c.closing c.closes here.here
+
+    -- a correspondence: what its certificate costs comes to the sum of the links
+    breaks : (h : HasLinks ds own first cs front here.game) (query certificate : Tree) → c.closing.certificate ≡ certificate → IsProved (at here.game) query certificate → Contains (queries_in ds) query → s ≡ sum_for false (with_cost (sums_along no_sums front) c.here.cost) → (i : Interpretation) → Satisfies ds i → (a : Adversary)
         → HasTapes (value_of ds i cs query a s) × AtMost (chance_of (setting_of ds i) (Breaks query) a first) (value_of ds i cs query a s)
-    breaks h query certificate proved asks u i sat a =
-        let sum = sym (plain [] (costs_behind h.links)) ∙ (h.sums false ∙ sum_here false ts c.place s c.here c.closing here.game here.before c.closes here.here u) in
+    breaks h query certificate same proved asks u i sat a =
+        let links : List Term = summed [] (costs_behind h.links) in
+        let sum : added links c.here.cost false ≡ s = ap (λ z. added z c.here.cost false) (sym (plain [] (costs_behind h.links)) ∙ h.sums false) ∙ (sym (cost_for false (sums_along no_sums front) c.here.cost) ∙ sym u) in
         let advantages = advantages_of ds i cs query a in
+        let price : cost_value i advantages c.here.cost false ≡ bound_of i (cost_of_certificate (at here.game) certificate) =
+        ap (λ z. cost_value i advantages z false) closes.costs
+        ∙ (cost_worth i advantages (cost_of_certificate (at here.game) c.closing.certificate) ∙ ap (λ z. bound_of i (cost_of_certificate (at here.game) z)) same) in
+        let number = subst HasTapes (sym price) (numbers (at here.game) query certificate proved.ready proved.accepted i sat) in
+        let bounded = subst (AtMost (chance_of (setting_of ds i) (Breaks query) a here.game)) (sym price) (costs (at here.game) query certificate proved i sat a) in
         let priced = prices ds own cs i (Breaks query) a advantages (λ n. refl) first h.links h.contexts in
-        let valued_along = λ (links : List Link) (game : Tree) (chain : IsChain ds (known_to own) first links game). events_valued ds game (games_ready ds own first w links game chain) i sat in (
-          subst (λ x. HasTapes (sum_value i advantages x)) sum (taped_sum ds (known_to own) first h.links here.game h.chain i sat advantages (taped_prices ds own first taped i sat (Breaks query) a advantages valued_along h.links here.game h.chain priced)),
+        let valued_along = λ (links : List Link) (game : Tree) (chain : IsChain ds (known_to own) first links game). events_valued ds game (games_ready ds own first w links game chain) i sat in
+        let along = taped_sum ds (known_to own) first h.links here.game h.chain i sat advantages (taped_prices ds own first taped i sat (Breaks query) a advantages valued_along h.links here.game h.chain priced) in (
+          subst (λ x. HasTapes (sum_value i advantages x)) sum (tapes_are_kept i advantages links c.here.cost false (mul-pos along number)),
           subst (λ x. AtMost (chance_of (setting_of ds i) (Breaks query) a first) (sum_value i advantages x)) sum
-              (carried ds own first w i sat (Breaks query) asks (events_valued ds first w.ready i sat) a advantages h.links here.game h.chain priced (never (at here.game) query certificate proved i sat a)),
+              (carried_cost ds own first w i sat (Breaks query) asks (events_valued ds first w.ready i sat) a advantages h.links here.game h.chain priced c.here.cost bounded),
         )
 
-    -- a secret
-    guesses : (h : HasLinks ds own first cs front here.game) (one : Bool) (x : ℕ) (query : Tree) → is_once query ≡ one → secret_of query ≡ x → Contains (queries_in ds) (secrecy_query one x) → s ≡ sum_for true (with_cost (sums_along no_sums front) c.here.cost)
+    -- a secret, whose certificate costs nothing
+    guesses : (h : HasLinks ds own first cs front here.game) (one : Bool) (x : ℕ) (query : Tree) → is_once query ≡ one → secret_of query ≡ x → Contains (queries_in ds) (secrecy_query one x) → is_secret c.closing.certificate ≡ true → s ≡ sum_for true (with_cost (sums_along no_sums front) c.here.cost)
         → ((i : Interpretation) (a : Adversary) → AtMost (secrecy (setting_of ds i) one x a here.game) zero_chance) → (i : Interpretation) → Satisfies ds i → (a : Adversary)
         → HasTapes (value_of ds i cs query a s) × AtMost (secrecy (setting_of ds i) one x a first) (value_of ds i cs query a s)
-    guesses h one x query once is asks u none i sat a =
-        let sum = h.sums true ∙ sum_here true ts c.place s c.here c.closing here.game here.before c.closes here.here u in
+    guesses h one x query once is asks secret u none i sat a =
+        let free : with_cost (sums_along no_sums front) c.here.cost ≡ sums_along no_sums front = ap (with_cost (sums_along no_sums front)) (closes.costs ∙ secret_free (at here.game) c.closing.certificate secret) ∙ nothing_more (sums_along no_sums front) in
+        let sum = h.sums true ∙ (ap (sum_for true) (sym free) ∙ sym u) in
         let advantages = advantages_of ds i cs query a in
         let shown : Experiment = Guesses (Real one x) in
         let drawn : Experiment = Guesses (Random one x) in
@@ -201,15 +188,15 @@ module _ (ds : List Declaration) (own : ℕ) (first : Tree) (w : IsFileOf ds own
     by_kind : (h : HasLinks ds own first cs front here.game) (query : Tree) → Contains (queries_in ds) query → MayBeAsked first query → IsClosedQuery ds query → (certificate : Tree) → c.closing.certificate ≡ certificate → IsAccepted (at here.game) query certificate → IsBounded ds cs first query s
     unfolding MayBeAsked
     by_kind h (Node Query bs sides) asks may is_closed certificate same accepted i sat a =
-        breaks h (Node Query bs sides) certificate (record { correspondence = refl; ready = ready_here h; sound = w.derivations; closed = is_closed; accepted = accepted }) asks
+        breaks h (Node Query bs sides) certificate same (record { correspondence = refl; ready = ready_here h; sound = w.derivations; closed = is_closed; accepted = accepted }) asks
         (c.up_to ∙ ap (λ b. sum_for b (with_cost (sums_along no_sums front) c.here.cost)) (ap is_secret same ∙ not_secret (at here.game) (correspondence_of (Node Query bs sides)) certificate accepted.proof)) i sat a
     by_kind h (Node (Secret x) Empty Empty) asks may is_closed certificate same accepted i sat a =
         let k = of_secret false (at here.game) x certificate accepted.proof in
-        guesses h false x (Node (Secret x) Empty Empty) refl refl asks (c.up_to ∙ ap (λ b. sum_for b (with_cost (sums_along no_sums front) c.here.cost)) (ap is_secret same ∙ k.0))
+        guesses h false x (Node (Secret x) Empty Empty) refl refl asks (ap is_secret same ∙ k.0) (c.up_to ∙ ap (λ b. sum_for b (with_cost (sums_along no_sums front) c.here.cost)) (ap is_secret same ∙ k.0))
         (λ j b. chosen (at here.game) x (ready_here h).formed k.1 j false b) i sat a
     by_kind h (Node (SecretOnce x) Empty Empty) asks may is_closed certificate same accepted i sat a =
         let k = of_secret true (at here.game) x certificate accepted.proof in
-        guesses h true x (Node (SecretOnce x) Empty Empty) refl refl asks (c.up_to ∙ ap (λ b. sum_for b (with_cost (sums_along no_sums front) c.here.cost)) (ap is_secret same ∙ k.0))
+        guesses h true x (Node (SecretOnce x) Empty Empty) refl refl asks (ap is_secret same ∙ k.0) (c.up_to ∙ ap (λ b. sum_for b (with_cost (sums_along no_sums front) c.here.cost)) (ap is_secret same ∙ k.0))
         (λ j b. elim k.1 [
           | inl m ↦ chosen (at here.game) x (ready_here h).formed m j true b
           | inr m ↦ copied (at here.game) x (ready_here h) m j b
@@ -233,7 +220,7 @@ module _ (ds : List Declaration) (own : ℕ) (first : Tree) (w : IsFileOf ds own
 -- the verdicts of a report that took steps
 
 module _ (holds : (ds : List Declaration) → DerivationsHold ds) (unreached : (ds : List Declaration) → DerivedBodiesAreUnreached ds)
-    (never : AreNeverBroken) (chosen : AreSecretChoices) (copied : AreSecretCopies) (decided : AreDecided)
+    (costs : AreWithinCosts) (numbers : AreNumbers) (chosen : AreSecretChoices) (copied : AreSecretCopies) (decided : AreDecided)
     (c : Content) (f : File) (r : Report) (bytes : List ℕ) (reads : read_of most_pool bytes ≡ Ok c) (few : length bytes ≤ most_bytes) where
   -- what its steps prove, with the contexts of the steps that were taken
   abbrev along : (r : Report) (f : File) → TakesSteps r f → Contexts
@@ -253,7 +240,7 @@ module _ (holds : (ds : List Declaration) → DerivationsHold ds) (unreached : (
       let closed = subst (λ (x : Content). HasClosedQueries x.declarations) (sym p.content) (queries_closed most_pool signs p.said said p.typed) in
       let number : 1 + j ≡ suc j = omega arith in
       let sum = sym (ap (sum_of w.proof) number) ∙ verdict_at (sum_of w.proof) 1 (queries_in d.declarations) j s (ap (λ vs. slice_get vs j) (sym w.verdicts) ∙ v) in
-      closed_holds d.declarations d.own d.game w_file closed (accepted most_pool bytes d here).asked (valued_file bytes d here w_file.ready) (taped bytes d here) never chosen copied decided w.proof w.last w.leads built j query s q sum
+      closed_holds d.declarations d.own d.game w_file closed (accepted most_pool bytes d here).asked (valued_file bytes d here w_file.ready) (taped bytes d here) costs numbers chosen copied decided w.proof w.last w.leads built j query s q sum
 
   sound_taken : r.file ≡ Some f → file_in r f (length c.names) ≡ c → (w : TakesSteps r f) → AreBuilt w.proof → IsSoundFor c (contexts_in r) r.verdicts.items
   sound_taken there same w built =

@@ -26,8 +26,11 @@ use crate::strategy::run_strategy;
 use cv_accept::{Accepted, read};
 use cv_derive_laws::reached::derivations_are_sound;
 use cv_query_certificates::accepted_exactly_where_nothing_fails;
-use cv_query_laws::correspondences::accepted_correspondences_are_never_broken;
-use cv_query_laws::secrets::{unread_choices_are_secret, unread_copies_are_secret_for_one_session};
+use cv_query_injections::accepted_correspondences_are_within_their_costs;
+use cv_query_injections::values::accepted_certificates_cost_a_number;
+use cv_query_secrets::unread::{
+    unread_choices_are_secret, unread_copies_are_secret_for_one_session,
+};
 use cv_report::outcome::refused;
 use cv_report::{Command, Report};
 use cv_syntax::{File, Work};
@@ -98,7 +101,8 @@ pub fn judge(alloc: Global, work: Work, command: Command, bytes: &[u8]) -> Repor
 {
     derivations_are_sound();
     accepted_exactly_where_nothing_fails();
-    accepted_correspondences_are_never_broken();
+    accepted_correspondences_are_within_their_costs();
+    accepted_certificates_cost_a_number();
     unread_choices_are_secret();
     unread_copies_are_secret_for_one_session();
     let mut work = work;

@@ -14,12 +14,18 @@ pub enum Why {
     Denied(TermId),
     /// Their equation is one of truth values.
     Truth,
-    /// They are the arguments at this place of two terms that are equal, with one function that is `[data]`.
-    Inside {
-        left: TermId,
-        right: TermId,
-        place: usize,
-    },
+    /// They are the arguments of two terms that are equal, with one function that is `[data]`.
+    Inside(Arguments),
+    /// They are the indices of two cells that are equal and defined, of one array whose values are taken to differ.
+    Apart(Arguments),
+}
+
+/// The arguments at one place of two terms.
+#[derive(Clone, Copy)]
+pub struct Arguments {
+    pub left: TermId,
+    pub right: TermId,
+    pub place: usize,
 }
 
 /// Two terms that are equal, and why.

@@ -6,12 +6,17 @@ use crate::terms::{TermId, Terms};
 use crate::uses::Links;
 use cv_syntax_trees::Head;
 use std::alloc::{AllocError, Global};
+use std::collections::HashSet;
 
 /// How a line is right that says that a term is true.
 #[derive(Clone, Copy)]
 pub enum Source {
     /// It is the fact of this number at the place.
     Fact(u32),
+    /// It is the fact of this number at the place of the second copy.
+    OtherFact(u32),
+    /// It is the equation of this number that is given for two copies.
+    Same(u32),
     /// It is the fact of this number at the only site of a cell, the cell by its number from 0.
     Site { cell: usize, fact: u32 },
     /// It is the equation of this number, with the terms of an instance for its variables.
@@ -26,11 +31,22 @@ pub enum Source {
     Equal,
 }
 
-/// A cell that is defined: directly at the place, or at the only site of another cell, which stands before it.
+/// Where a cell is directly defined, and a fact stands.
+#[derive(Clone, Copy)]
+pub enum Standing {
+    /// At the place.
+    Here,
+    /// At the place of the second copy.
+    There,
+    /// At the only site of another cell, which stands before it, by its number from 0.
+    Behind(usize),
+}
+
+/// A cell that is defined.
 #[derive(Clone, Copy)]
 pub struct Cell {
     pub term: TermId,
-    pub of: Option<usize>,
+    pub standing: Standing,
 }
 
 /// How many terms a closure has at most.
@@ -45,8 +61,9 @@ const HEADS: usize = 512;
 /// How many buckets there are for terms by their heads and the classes of their arguments.
 const BUCKETS: usize = 4096;
 
-/// Terms in classes of equal ones, closed under congruence, with what is known to be true. Each join keeps why. What is done for
-/// it is counted, and it grows no more once it was given so much effort as it may take.
+/// Terms in classes of equal ones, closed under congruence, with what is known to be true, and the arrays whose values are taken to
+/// differ. Each join keeps why. What is done for it is counted, and it grows no more once it was given so much effort as it may
+/// take.
 #[derive(Drop)]
 pub struct Closure {
     pub(crate) alloc: Global,
@@ -54,6 +71,7 @@ pub struct Closure {
     pub(crate) classes: Classes,
     cells: Vec<Cell>,
     places: Vec<usize>,
+    distinct: HashSet<u32>,
     instances: Vec<Vec<TermId>>,
     pub(crate) yes: TermId,
     pub(crate) no: TermId,
@@ -95,6 +113,7 @@ impl Closure {
             classes: Classes::new(alloc),
             cells: Vec::new(alloc),
             places: Vec::new(alloc),
+            distinct: HashSet::new(alloc),
             instances: Vec::new(alloc),
             yes: TermId(0),
             no: TermId(1),
@@ -276,6 +295,17 @@ impl Closure {
             0 => None,
             place => Some(place - 1),
         }
+    }
+
+    /// Takes the values of an array to differ: where two of its cells are defined and equal, so are their indices.
+    pub fn tell_apart(&mut self, array: u32) -> Result<(), AllocError> {
+        self.distinct.insert(array)?;
+        Ok(())
+    }
+
+    /// Whether the values of an array are taken to differ.
+    pub fn is_told_apart(&self, array: u32) -> bool {
+        self.distinct.contains(&array)
     }
 
     /// Keeps the terms of an instance, and gives its number.

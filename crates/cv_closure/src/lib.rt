@@ -10,7 +10,7 @@ mod theory;
 mod truths;
 mod uses;
 
-pub use classes::{Classes, Join, Step, Why};
-pub use closure::{Cell, Closure, MOST_TERMS, Source};
+pub use classes::{Arguments, Classes, Join, Step, Why};
+pub use closure::{Cell, Closure, MOST_TERMS, Source, Standing};
 pub use terms::{TermId, Terms};
 pub use theory::{Equation, Theory};

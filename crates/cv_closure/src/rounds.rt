@@ -10,7 +10,8 @@ const MOST_ROUNDS: u32 = 4;
 const MOST_TURNS: u32 = 1_000_000;
 
 impl Closure {
-    /// Takes what follows of the terms on the agenda by truth values and functions that are `[data]`, until there are none.
+    /// Takes what follows of the terms on the agenda by truth values, functions that are `[data]` and arrays whose values are taken to
+    /// differ, until there are none.
     fn look(&mut self, theory: &Theory) -> Result<(), AllocError> {
         self.settle()?;
         for _ in 0..MOST_TURNS {
@@ -21,14 +22,14 @@ impl Closure {
                 return Ok(());
             }
             self.open_truth(t)?;
-            self.open_call(&theory.data, t)?;
+            self.open_arguments(&theory.data, t)?;
             self.settle()?;
         }
         Ok(())
     }
 
-    /// Takes what follows from what is known, by congruence, truth values, functions that are `[data]` and declared equations,
-    /// in at most four rounds.
+    /// Takes what follows from what is known, by congruence, truth values, functions that are `[data]`, arrays whose values are
+    /// taken to differ, and declared equations, in at most four rounds.
     pub fn saturate(&mut self, theory: &Theory) -> Result<(), AllocError> {
         self.look(theory)?;
         for _ in 0..MOST_ROUNDS {

@@ -46,7 +46,7 @@ fn spread(head: Head, arguments: &[TermId]) -> u64 {
 /// How much a node weighs: itself, and the name that it holds.
 fn weight_of(head: Head) -> u64 {
     match head {
-        Head::Leaf(_) | Head::Read(_) | Head::Apply(_) => 2,
+        Head::Leaf(_) | Head::Primed(_) | Head::Read(_) | Head::Apply(_) => 2,
         _ => 1,
     }
 }

@@ -19,12 +19,13 @@ pub struct Equation {
     pub term: TermId,
 }
 
-/// What a file declares of its functions: equations, and the functions that are `[data]`.
+/// What a file declares: equations, the functions that are `[data]`, and the types that are `[large]`.
 #[derive(Drop)]
 pub struct Theory {
     pub patterns: Terms,
     pub equations: Vec<Equation>,
     pub data: HashSet<u32>,
+    pub large: HashSet<u32>,
 }
 
 /// The pattern of an equation, with what its variables stand for so far, in the order in which that was found, and how many

@@ -1,5 +1,5 @@
-// What follows by equations of truth values, and by functions that are `[data]`.
-use crate::classes::Why;
+// What follows by equations of truth values, by functions that are `[data]`, and by arrays whose values are taken to differ.
+use crate::classes::{Arguments, Why};
 use crate::closure::{Closure, Source};
 use crate::terms::TermId;
 use cv_syntax_trees::Head;
@@ -137,24 +137,49 @@ impl Closure {
         self.open_term(t)
     }
 
-    /// The next member of a term's class that is a call of the same function.
-    fn next_call(&self, t: TermId, function: u32) -> Option<TermId> {
+    /// Whether a term is a call of a function that is `[data]`, or a cell that is defined of an array whose values are taken to differ:
+    /// equal ones have equal arguments.
+    fn is_one_to_one(&self, data: &HashSet<u32>, t: TermId) -> bool {
+        match self.terms.head(t) {
+            Some(Head::Apply(function)) => data.contains(&function),
+            Some(Head::Read(array)) => self.is_told_apart(array) && self.cell_of(t).is_some(),
+            _ => false,
+        }
+    }
+
+    /// Whether two terms are calls of one function, or one is a cell of an array and the other a cell of it that is defined.
+    fn is_alike(&self, t: TermId, other: TermId) -> bool {
+        match (self.terms.head(t), self.terms.head(other)) {
+            (Some(Head::Apply(f)), Some(Head::Apply(g))) => f == g,
+            (Some(Head::Read(x)), Some(Head::Read(y))) => x == y && self.cell_of(other).is_some(),
+            _ => false,
+        }
+    }
+
+    /// The next member of a term's class that is alike.
+    fn next_alike(&self, t: TermId) -> Option<TermId> {
         let mut at = self.classes.next(t);
         for _ in 0..self.classes.count(t) {
             if at == t {
                 return None;
             }
-            if let Some(Head::Apply(g)) = self.terms.head(at) {
-                if g == function {
-                    return Some(at);
-                }
+            if self.is_alike(t, at) {
+                return Some(at);
             }
             at = self.classes.next(at);
         }
         None
     }
 
-    /// Joins the arguments of two calls that are equal, of a function that is `[data]`.
+    /// Why arguments of two equal terms are equal: of cells of an array, or of calls.
+    fn why_inside(&self, arguments: Arguments) -> Why {
+        match self.terms.head(arguments.left) {
+            Some(Head::Read(_)) => Why::Apart(arguments),
+            _ => Why::Inside(arguments),
+        }
+    }
+
+    /// Joins the arguments of two terms that are equal, of a function that is `[data]` or of an array whose values are taken to differ.
     fn join_arguments(&mut self, left: TermId, right: TermId) -> Result<(), AllocError> {
         for place in 0..self.terms.arguments(left).len() {
             let (Some(m), Some(n)) = (
@@ -163,21 +188,24 @@ impl Closure {
             ) else {
                 return Ok(());
             };
-            self.equate(m, n, Why::Inside { left, right, place })?;
+            let why = self.why_inside(Arguments { left, right, place });
+            self.equate(m, n, why)?;
         }
         Ok(())
     }
 
-    /// What follows of a term, where it is a call of a function that is `[data]`: its arguments are those of an equal call.
-    pub(crate) fn open_call(&mut self, data: &HashSet<u32>, t: TermId) -> Result<(), AllocError> {
-        let Some(Head::Apply(function)) = self.terms.head(t) else {
-            return Ok(());
-        };
+    /// What follows of a term, where it is a call of a function that is `[data]`, or a cell that is defined of an array whose values
+    /// are taken to differ: its arguments are those of an equal one.
+    pub(crate) fn open_arguments(
+        &mut self,
+        data: &HashSet<u32>,
+        t: TermId,
+    ) -> Result<(), AllocError> {
         let count = self.classes.count(t) as usize;
-        if !data.contains(&function) || !self.spend(count) {
+        if !self.is_one_to_one(data, t) || !self.spend(count) {
             return Ok(());
         }
-        match self.next_call(t, function) {
+        match self.next_alike(t) {
             Some(other) => self.join_arguments(t, other),
             None => Ok(()),
         }

@@ -44,6 +44,15 @@ pub enum Reason {
     Bool,
     /// The first line's cell is one of a variable that comes later than the place, at current indices, as the other lines say.
     Late(u64, Vec<u64>),
+    /// It is the fact of this number at the place of the second copy.
+    OtherFact(u64),
+    /// The cell is directly defined at the place of the second copy.
+    OtherHere,
+    /// It is the equation of this number that is given for two copies.
+    Same(u64),
+    /// The first line says that two cells are equal, of an array whose values are taken to differ, and the next two that they are
+    /// defined; it is the equation of their indices at a place, from 1.
+    Distinct(u64, u64, u64, u64),
 }
 
 /// A line of a derivation.

@@ -1,6 +1,6 @@
 // What a closure joined, written out as the lines of a derivation.
 use crate::lines::{Claim, Derivation, Line, Reason};
-use cv_closure::{Closure, Join, Source, Step, TermId, Terms, Why};
+use cv_closure::{Arguments, Closure, Join, Source, Standing, Step, TermId, Terms, Why};
 use cv_syntax_trees::Head;
 use std::alloc::{AllocError, AllocFailed, Global};
 
@@ -55,6 +55,7 @@ fn weight_of(terms: &Terms, by: &Reason) -> u64 {
             weight
         }
         Reason::Cong(lines) => 1_u64.saturating_add(lines.len() as u64),
+        Reason::Distinct(_, _, _, _) => 5,
         _ => 3,
     }
 }
@@ -188,9 +189,10 @@ impl Scribe {
         let Some(cell) = closure.cells().get(k).copied() else {
             return Err(Stop::TooLong);
         };
-        let by = match cell.of {
-            None => Reason::Here,
-            Some(other) => {
+        let by = match cell.standing {
+            Standing::Here => Reason::Here,
+            Standing::There => Reason::OtherHere,
+            Standing::Behind(other) => {
                 if other >= k {
                     return Err(Stop::TooLong);
                 }
@@ -255,6 +257,8 @@ impl Scribe {
         }
         match closure.source(t) {
             Some(Source::Fact(k)) => self.say(claim, Reason::Fact(u64::from(k))),
+            Some(Source::OtherFact(k)) => self.say(claim, Reason::OtherFact(u64::from(k))),
+            Some(Source::Same(k)) => self.say(claim, Reason::Same(u64::from(k))),
             Some(Source::Site { cell, fact }) => {
                 let line = self.cell(closure, cell)?;
                 self.say(claim, Reason::Site(line, u64::from(fact)))
@@ -385,31 +389,44 @@ impl Scribe {
         if left == 0 {
             return Err(Stop::TooLong);
         }
+        self.explain(closure, join, claim, left - 1)
+    }
+
+    /// The line with this claim, that the terms of a join are equal.
+    #[cycle(explaining)]
+    fn explain(
+        &mut self,
+        closure: &Closure,
+        join: Join,
+        claim: TermId,
+        left: u32,
+    ) -> Result<u64, Stop> {
         match join.why {
-            Why::Stated(t) => self.known(closure, t, left - 1),
+            Why::Stated(t) => self.known(closure, t, left),
             Why::Truth => self.say(claim, Reason::Bool),
             Why::Known => {
-                let first = self.known(closure, join.left, left - 1)?;
+                let first = self.known(closure, join.left, left)?;
+                let m = self.copy(closure, join.left)?;
                 let second = self.truth(m, claim)?;
                 self.say(claim, Reason::Mp(first, second))
             }
             Why::Denied(t) => {
-                let first = self.known(closure, t, left - 1)?;
+                let first = self.known(closure, t, left)?;
                 let denial = self.copy(closure, t)?;
                 let second = self.truth(denial, claim)?;
                 self.say(claim, Reason::Mp(first, second))
             }
             Why::Congruent => {
-                let lines = self.arguments(closure, join.left, join.right, left - 1)?;
+                let lines = self.arguments(closure, join.left, join.right, left)?;
                 self.say(claim, Reason::Cong(lines))
             }
-            Why::Inside {
-                left: f,
-                right: g,
-                place,
-            } => {
-                let line = self.equal(closure, f, g, left - 1)?;
-                self.inside(closure, f, g, place, line)
+            Why::Inside(there) => {
+                let line = self.equal(closure, there.left, there.right, left)?;
+                self.inside(closure, there, line)
+            }
+            Why::Apart(there) => {
+                let line = self.equal(closure, there.left, there.right, left)?;
+                self.apart(closure, claim, there, line)
             }
         }
     }
@@ -467,27 +484,20 @@ impl Scribe {
         Ok(parts)
     }
 
-    /// The line that says that the arguments at a place of two calls are equal, where a line says that the calls are, of a
-    /// function that is `[data]`.
-    fn inside(
-        &mut self,
-        closure: &Closure,
-        f: TermId,
-        g: TermId,
-        place: usize,
-        line: u64,
-    ) -> Result<u64, Stop> {
-        let mut parts = self.conjunctions(closure, f, g)?;
+    /// The line that says that arguments of two calls are equal, where a line says that the calls are, of a function that is
+    /// `[data]`.
+    fn inside(&mut self, closure: &Closure, there: Arguments, line: u64) -> Result<u64, Stop> {
+        let mut parts = self.conjunctions(closure, there.left, there.right)?;
         let Some((mut one, mut all)) = parts.pop() else {
             return Err(Stop::TooLong);
         };
-        let first = self.copy(closure, f)?;
-        let second = self.copy(closure, g)?;
+        let first = self.copy(closure, there.left)?;
+        let second = self.copy(closure, there.right)?;
         let calls = self.equation(first, second)?;
         let lemma = self.equation(calls, all)?;
         let by_data = self.say(lemma, Reason::Data)?;
         let mut at = self.say(all, Reason::Mp(line, by_data))?;
-        for _ in 0..place {
+        for _ in 0..there.place {
             let Some((next, rest)) = parts.pop() else {
                 return Err(Stop::TooLong);
             };
@@ -499,6 +509,29 @@ impl Scribe {
             return Ok(at);
         }
         self.say(one, Reason::Left(at))
+    }
+
+    /// The line that says that a term is defined, which is a cell that is known to be.
+    fn defined(&mut self, closure: &Closure, t: TermId) -> Result<u64, Stop> {
+        match closure.cell_of(t) {
+            Some(k) => self.cell(closure, k),
+            None => Err(Stop::TooLong),
+        }
+    }
+
+    /// The line with this claim, that indices of two cells are equal, where a line says that the cells are, of an array whose values
+    /// are taken to differ.
+    fn apart(
+        &mut self,
+        closure: &Closure,
+        claim: TermId,
+        there: Arguments,
+        line: u64,
+    ) -> Result<u64, Stop> {
+        let first = self.defined(closure, there.left)?;
+        let second = self.defined(closure, there.right)?;
+        let number = (there.place as u64).saturating_add(1);
+        self.say(claim, Reason::Distinct(line, first, second, number))
     }
 
     /// The line that says that a term of the closure is true.

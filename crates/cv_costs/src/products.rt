@@ -1,5 +1,5 @@
 // The factors of products of parameters, in the order in which the parameters are declared, and costs of such products.
-ghost use Rattle.std.specs.Prelude.{◌≡◌, ◌+◌, ◌<◌, ◌^◌, [], ◌∷◌, ◌++◌, All, IfOk, List, OnOk, length};
+ghost use Rattle.std.specs.Prelude.{◌≡◌, ◌+◌, ◌<◌, ◌^◌, [], ◌∷◌, ◌++◌, All, IfOk, List, OnOk, length, true};
 ghost use Rattle.cv_pool.specs.KindTree.{KindTree};
 ghost use Rattle.cv_syntax.specs.Declarations.{declarations};
 ghost use Rattle.cv_steps.specs.Costs.{cost_of};
@@ -163,6 +163,21 @@ fn twice(alloc: Global, parameters: &[u32]) -> Result<Vec<u32>, AllocError>
     Ok(made)
 }
 
+/// The chance that two values of a type are equal, for each pair of copies below replications with these parameters.
+pub(crate) fn collision_of_pairs(
+    alloc: Global,
+    decls: &Decls,
+    parameters: &[u32],
+    over: u32,
+) -> Result<Collision, AllocError>
+    requires { length parameters.now < 128 }
+    ensures { (trees : List KindTree) → IfOk result (λ made. made ≡ specs.collision_of
+        (declarations trees decls.now.list) (parameters.now ++ parameters.now) true over) }
+{
+    let both = twice(alloc, parameters)?;
+    collision_of(alloc, decls, both.as_slice(), true, over)
+}
+
 /// The cost of two equal values of a type, for each pair of copies below replications with these parameters.
 pub fn cost_of_pairs(
     alloc: Global,
@@ -174,7 +189,6 @@ pub fn cost_of_pairs(
     ensures { (trees : List KindTree) → IfOk result (λ made. made ≡ cost_of (one_for_pairs
         (declarations trees decls.now.list) parameters.now over)) }
 {
-    let both = twice(alloc, parameters)?;
-    let collision = collision_of(alloc, decls, both.as_slice(), true, over)?;
+    let collision = collision_of_pairs(alloc, decls, parameters, over)?;
     cost_of_one(alloc, collision)
 }

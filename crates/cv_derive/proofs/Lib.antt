@@ -1,3 +1,4 @@
+mod Copies
 mod Current
 mod Defining
 mod Descending

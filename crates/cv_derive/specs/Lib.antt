@@ -2,6 +2,7 @@ pub mod Following
 pub mod Current
 pub mod Leading
 pub mod Searching
+pub mod Seconds
 pub mod Seen
 pub mod Sites
 pub mod Standing

@@ -1,5 +1,5 @@
--- A place of a game as the code has it, with the lines of a derivation there.
-use Rattle.std.specs.Prelude.{◌≡◌, ℕ, ◌+◌, ◌<◌, ◌^◌, All, IfSome, List, length, Some}
+-- A place of a game as the code has it, perhaps with a second one, with the lines of a derivation there.
+use Rattle.std.specs.Prelude.{◌≡◌, ℕ, ◌+◌, ◌<◌, ◌^◌, All, IfSome, List, length, Option, Some, None}
 use Rattle.cv_pool.specs.KindTree.{KindTree}
 use Rattle.cv_pool.specs.Nodes.{ChildBelow}
 use Rattle.cv_syntax_trees.specs.declared.head.Head.TheVariants.{Not}
@@ -14,7 +14,8 @@ use Rattle.cv_scope_rules.specs.typing.Signature.{OfGame}
 use Rattle.cv_typing.specs.Tables.{above_of, arrays_of, directory_in}
 use Rattle.cv_scope_rules.specs.Phrases.{IsWellFormed}
 use Rattle.cv_scene.specs.Sights as spec
-use Rattle.cv_scene.specs.Terms.{above_at, replications_at}
+use Rattle.cv_scene.specs.Scenes.{Scene}
+use Rattle.cv_scene.specs.Terms.{above_under, replications_at}
 use Rattle.cv_scene_view.specs.Kept.{scene_of}
 use Rattle.cv_scene.specs.lines.Inferences.{Visible}
 use Rattle.cv_scene.specs.lines.Lines.{count, lines_of}
@@ -23,8 +24,10 @@ use Rattle.cv_derive_lines.specs.citing.Bookmarks.{visible_to}
 use Rattle.cv_derive_lines.specs.citing.Citing.{cited_from}
 use Rattle.cv_derive_reasons.specs.sizes.Sizes.{AreSizes}
 use Rattle.cv_derive_lines.specs.terms.Typed.{IsSightOf}
+use Rattle.cv_derive.specs.Seconds.{IsSecond, pair_of}
 use Rattle.cv_derive.specs.declared.sight.Assumed.{Assumed}
 use Rattle.cv_derive.specs.declared.sight.Assumed.TheVariants as assumed
+use Rattle.cv_derive.specs.declared.sight.Second.{Second}
 use Rattle.cv_derive.specs.declared.sight.Sight.{Sight}
 
 abbrev pub trees_of : Sight → List KindTree
@@ -33,8 +36,19 @@ trees_of s = s.work.now.pool.trees
 abbrev pub game_of : Sight → Tree
 game_of s = tree_at (trees_of s) (Some s.game.root)
 
+abbrev pub scene_seen : Sight → Scene
+scene_seen s = scene_of s.work.now.pool s.work.now.decls s.game.root
+
+-- what a derivation may cite at the place, or at both
+abbrev pub sight_with : List KindTree → Scene → (place : ℕ) → Option Second → spec.Sight
+sight_with trees s p None = spec.sight_at s p
+sight_with trees s p (Some o) = pair_of trees s p o
+
+-- a second place adds indices, and what is said of it
 abbrev pub sight_of : Sight → spec.Sight
-sight_of s = spec.sight_at (scene_of s.work.now.pool s.work.now.decls s.game.root) s.place
+sight_of s =
+    let all = sight_with (trees_of s) (scene_seen s) s.place s.second in
+    record (spec.sight_at (scene_seen s) s.place) { replications = all.replications; pair = all.pair }
 
 -- the lines that the line of a number may cite
 abbrev pub visible_of : Sight → ℕ → Visible
@@ -68,6 +82,7 @@ pub record Sees (s : Sight) : Type 0 where
   pub formed : IsWellFormed (declarations (trees_of s) s.work.now.decls.list) (game_of s)
   pub arrays : arrays_of s.arrays.now ≡ OfGame (sites_of (game_of s))
   pub entries : IfSome (directory_in s.arrays.now) (λ d. entries_in (trees_of s) d ≡ entries_of (large_in s.work.now.decls.list) (game_of s))
-  pub above : above_of s.above.now ≡ above_at (sight_of s).scene s.place
-  pub replications : s.replications.now ≡ replications_at (sight_of s).scene s.place
+  pub above : above_of s.above.now ≡ above_under (sight_of s).replications
+  pub replications : s.replications.now ≡ replications_at (scene_seen s) s.place
+  pub second : IfSome s.second (IsSecond (trees_of s) (scene_seen s))
   pub sizes : AreSizes (trees_of s) s.sizes.now

@@ -108,7 +108,7 @@ fn is_right_line(
 
 /// The number of the first of these lines that isn't right, where the first of them has a number. The lines around that are
 /// kept serve them.
-fn first_bad(
+pub(crate) fn first_bad(
     s: &Sight,
     around: &Bookmarks,
     assumed: Assumed,
@@ -219,6 +219,7 @@ pub fn check(
         replications,
         sizes: &sizes,
         place,
+        second: None,
         lines: by,
     };
     if let Some(n) = first_bad(&sight, &Bookmarks::new(), Assumed::Nothing, 1, by) {

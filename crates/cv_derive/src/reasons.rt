@@ -18,6 +18,7 @@ ghost use Rattle.cv_derive.specs.Seen.{IsAssumedBelow, Sees, assumed_of, sight_o
 use crate::defined::is_defined_under;
 use crate::facts::is_fact_under;
 use crate::indices::are_current;
+use crate::seconds::{is_cell_of, is_distinct_of, is_fact_of, is_given_of};
 use crate::sight::{Assumed, Sight};
 use crate::sites::{is_site_cell, is_site_fact};
 use cv_derive_lines::Claim;
@@ -123,7 +124,7 @@ fn is_there(s: &Sight, citing: &Citing, line: Option<NodeId>, cell: Option<NodeI
     }
 }
 
-/// Whether a cited cell is one at current indices of a variable that comes later than the place.
+/// Whether a cited cell is one at current indices of a variable that comes later than the place, where there is no second one.
 fn is_late_cell(s: &Sight, citing: &Citing, line: Option<NodeId>, lines: Option<NodeId>) -> bool
     requires sees { Sees s.now }
     requires citing { CanCite (trees_of s.now) citing.now }
@@ -133,6 +134,9 @@ fn is_late_cell(s: &Sight, citing: &Citing, line: Option<NodeId>, lines: Option<
         (inferences.cited_cell (visible_by s.now citing.now) (tree_at (trees_of s.now) line))
         (tree_at (trees_of s.now) lines) }
 {
+    if s.second.is_some() {
+        return false;
+    }
     let pool = &s.work.pool;
     let cell = cited_cell(pool, citing, line);
     let Some(x) = variable(pool, cell) else {
@@ -257,6 +261,9 @@ fn is_reason(
         Head::ByData => is_injective(s.work, term),
         Head::ByGiven => is_assumed(pool, assumed, term),
         Head::ByLate => is_early(s, citing, node.first, node.second, term),
+        Head::ByOtherFact => is_fact_of(s, node.first, term),
+        Head::BySame => is_given_of(s, node.first, term),
+        Head::ByDistinct => is_distinct_of(s, citing, node.first, node.second, term),
         _ => follows(s, citing, term, node),
     }
 }
@@ -282,6 +289,7 @@ fn is_reason_of_cell(
     match node.head {
         Head::ByHere => is_here(s, cell),
         Head::ByOf => is_there(s, citing, node.first, cell),
+        Head::ByOtherHere => is_cell_of(s, cell),
         Head::ByExfalso => {
             let line = cited_term(pool, citing, node.first);
             is_alone(pool, Head::No, line)

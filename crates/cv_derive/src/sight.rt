@@ -4,9 +4,26 @@ use cv_syntax::{Game, NodeId, Work};
 use cv_typing::Arrays;
 use std::collections::HashMap;
 
-/// A place of a game, with what is there to read, and the lines of a derivation there.
+/// A second place of a game, of which another copy is reached.
 #[derive(Clone, Copy)]
-pub(crate) struct Sight<'a> {
+pub struct Second<'a> {
+    pub place: u32,
+    /// The replications above the place, under their names in the game.
+    pub replications: &'a [(u32, u32)],
+    /// What is added to the names of their indices in the second copy, as in `raised`: the contract alone reads it.
+    pub raise: u32,
+    /// The list of these indices under their names in the second copy.
+    pub raised: Option<NodeId>,
+    /// The list of equations that are given.
+    pub given: Option<NodeId>,
+    /// The arrays whose values are taken to differ.
+    pub distinct: &'a [u32],
+}
+
+/// A place of a game, with what is there to read, perhaps beside a second one, and the lines of a derivation there. The
+/// replications are those above the place.
+#[derive(Clone, Copy)]
+pub(crate) struct Sight<'a, 's> {
     pub(crate) work: &'a Work,
     pub(crate) game: Game,
     pub(crate) arrays: &'a Arrays,
@@ -14,6 +31,7 @@ pub(crate) struct Sight<'a> {
     pub(crate) replications: &'a [(u32, u32)],
     pub(crate) sizes: &'a Sizes,
     pub(crate) place: u32,
+    pub(crate) second: Option<Second<'s>>,
     pub(crate) lines: Option<NodeId>,
 }
 

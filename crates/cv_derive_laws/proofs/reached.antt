@@ -3,5 +3,6 @@ pub mod Walks
 pub mod Replications
 pub mod Bound
 pub mod Reached
-mod Copies
+pub mod Copies
+mod Ended
 pub mod Targets

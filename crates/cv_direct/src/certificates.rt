@@ -40,11 +40,26 @@ pub enum Entry {
     },
 }
 
+/// Two places of the left event whose routes to one right event, by its number, may end alike: the derivation at both ends with that
+/// their copies are one, or that there are no such copies.
+#[derive(Drop)]
+pub struct Pair {
+    pub first: u32,
+    pub second: u32,
+    pub event: u64,
+    pub by: Derivation,
+}
+
 /// What closes a query.
 #[derive(Drop)]
 pub enum Certificate {
-    /// Of a correspondence: an entry for each place of its left event, in order.
-    Events(Vec<Entry>),
+    /// Of a correspondence: an entry for each place of its left event, the arrays whose values are taken to differ, and the pairs
+    /// that it needs, each in order.
+    Events {
+        entries: Vec<Entry>,
+        distinct: Vec<u32>,
+        pairs: Vec<Pair>,
+    },
     /// Of secrecy, where the game itself has the form that is asked for: no pairs.
     Secret,
 }

@@ -20,12 +20,14 @@ use std::alloc::{AllocError, Global};
 /// How much effort is taken in one game.
 const MOST_EFFORT: u32 = 3_000_000;
 
-/// What searches in one game share: its survey, what the file declares, and how much effort they may still take together.
+/// What searches in one game share: its survey, what the file declares, and how much effort they may still take together, those for
+/// injective correspondences for themselves.
 #[derive(Drop)]
 pub struct Proposer {
     survey: Survey,
     theory: Theory,
     effort: Effort,
+    injective: Effort,
 }
 
 /// How a step names a body of a test.
@@ -63,6 +65,7 @@ impl Proposer {
             survey: Survey::of(alloc, pool, Game { root: game })?,
             theory: theory_of(alloc, pool, decls)?,
             effort: Effort { left: MOST_EFFORT },
+            injective: Effort { left: MOST_EFFORT },
         })
     }
 
@@ -85,6 +88,7 @@ impl Proposer {
             &self.theory,
             query,
             &mut self.effort,
+            &mut self.injective,
         )?;
         let Some(there) = there else {
             return Ok(None);

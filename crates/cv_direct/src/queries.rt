@@ -4,20 +4,27 @@ use cv_syntax::{Head, NodeId, Opened, Pool};
 use std::alloc::{AllocError, Global};
 use std::collections::HashSet;
 
-/// What stands on the right: an event with its arguments, or a term.
+/// A right event: its number among all that stands on the right, from 1, whether it is marked `inj`, its name and its arguments.
+#[derive(Clone, Copy)]
+pub struct RightEvent {
+    pub number: u64,
+    pub is_once: bool,
+    pub event: u32,
+    pub arguments: Option<NodeId>,
+}
+
+/// What stands on the right: an event, or a term.
 #[derive(Clone, Copy)]
 pub enum Atom {
-    Event {
-        event: u32,
-        arguments: Option<NodeId>,
-    },
+    Event(RightEvent),
     Term(NodeId),
 }
 
-/// A correspondence without `inj` and without alternatives: its left event with the variables there, the variables that stand on
-/// the right alone, in the order of their declaration and as a set, and what stands on the right.
+/// A correspondence without alternatives: whether its left event is marked `inj`, that event with the variables there, the variables
+/// that stand on the right alone, in the order of their declaration and as a set, and what stands on the right.
 #[derive(Drop)]
 pub struct Correspondence {
+    pub is_once: bool,
     pub event: u32,
     pub variables: Vec<u32>,
     pub others: Vec<u32>,
@@ -61,20 +68,23 @@ fn leaves(alloc: Global, pool: &Pool, list: Option<NodeId>) -> Result<Vec<u32>, 
     Ok(names)
 }
 
-/// What an item on the right is; none where it is marked `inj`.
-fn right_side(pool: &Pool, n: NodeId) -> Option<Atom> {
+/// What the item of a number on the right is.
+fn right_side(pool: &Pool, n: NodeId, number: u64) -> Option<Atom> {
     let node = open(pool, n)?;
-    match node.head {
-        Head::Occurs(event) => Some(Atom::Event {
-            event,
-            arguments: node.first,
-        }),
-        Head::OccursOnce(_) => None,
-        _ => Some(Atom::Term(n)),
-    }
+    let (is_once, event) = match node.head {
+        Head::Occurs(event) => (false, event),
+        Head::OccursOnce(event) => (true, event),
+        _ => return Some(Atom::Term(n)),
+    };
+    Some(Atom::Event(RightEvent {
+        number,
+        is_once,
+        event,
+        arguments: node.first,
+    }))
 }
 
-/// What stands on the right; none where an event is marked `inj`.
+/// What stands on the right.
 fn right_sides(
     alloc: Global,
     pool: &Pool,
@@ -82,7 +92,8 @@ fn right_sides(
 ) -> Result<Option<Vec<Atom>>, AllocError> {
     let mut atoms = Vec::new(alloc);
     for n in &items(alloc, pool, list)? {
-        let Some(there) = right_side(pool, *n) else {
+        let number = (atoms.len() as u64).saturating_add(1);
+        let Some(there) = right_side(pool, *n, number) else {
             return Ok(None);
         };
         atoms.push(there)?;
@@ -158,6 +169,7 @@ fn right_alone(
 #[derive(Clone, Copy)]
 struct Parts {
     declared: Option<NodeId>,
+    is_once: bool,
     event: u32,
     arguments: Option<NodeId>,
     rights: Option<NodeId>,
@@ -171,7 +183,7 @@ fn has_alternatives(pool: &Pool, rights: Option<NodeId>) -> bool {
     }
 }
 
-/// The parts of a query's tree, where it is a correspondence whose left event isn't marked `inj`, without alternatives.
+/// The parts of a query's tree, where it is a correspondence without alternatives.
 fn parts_of(pool: &Pool, query: NodeId) -> Option<Parts> {
     let node = open(pool, query)?;
     let Head::Query = node.head else {
@@ -179,21 +191,24 @@ fn parts_of(pool: &Pool, query: NodeId) -> Option<Parts> {
     };
     let sides = open(pool, node.second?)?;
     let left = open(pool, sides.first?)?;
-    let Head::Occurs(event) = left.head else {
-        return None;
+    let (is_once, event) = match left.head {
+        Head::Occurs(event) => (false, event),
+        Head::OccursOnce(event) => (true, event),
+        _ => return None,
     };
     if has_alternatives(pool, sides.second) {
         return None;
     }
     Some(Parts {
         declared: node.first,
+        is_once,
         event,
         arguments: left.first,
         rights: sides.second,
     })
 }
 
-/// The parts of a query, where it is a correspondence without `inj` and without alternatives.
+/// The parts of a query, where it is a correspondence without alternatives.
 pub fn correspondence_of(
     alloc: Global,
     pool: &Pool,
@@ -212,6 +227,7 @@ pub fn correspondence_of(
     let others = right_alone(alloc, &declared, &left, &read)?;
     let alone = set_of(alloc, &others)?;
     Ok(Some(Correspondence {
+        is_once: parts.is_once,
         event: parts.event,
         variables,
         others,

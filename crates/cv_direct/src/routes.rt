@@ -1,11 +1,13 @@
 // Routes to the right events of a correspondence, from one place of its left event.
 use crate::certificates::{Entry, Route};
-use crate::queries::{Atom, Correspondence};
+use crate::pairs::Pairing;
+use crate::queries::{Atom, Correspondence, RightEvent};
+use crate::searching::Effort;
 use cv_closure::{TermId, Theory};
 use cv_closure_lines::{
     Claim, Derivation, MOST_LINES, Target, all_follow, copied, derive, derive_late,
 };
-use cv_grounds::{Event, Given, Grounds, Known, Survey, items, open, translate};
+use cv_grounds::{End, Event, Given, Grounds, Known, Link, Survey, items, open, translate};
 use cv_syntax::{Head, NodeId, Pool};
 use std::alloc::{AllocError, Global};
 
@@ -30,12 +32,30 @@ pub(crate) struct Search {
 }
 
 /// A place where a right event may stand: above the left event, or above the only site of a cell, by its number, with the
-/// arguments there.
+/// arguments there, and how many replications stand above it.
 #[derive(Clone, Copy)]
 struct Candidate {
     place: u32,
     cell: Option<usize>,
     arguments: Option<NodeId>,
+    replications: usize,
+}
+
+/// The candidate that a link is, of an event of this name.
+fn candidate_by(link: Link, event: u32, cell: Option<usize>) -> Option<Candidate> {
+    match link.known {
+        Known::Event {
+            event: there,
+            place,
+            arguments,
+        } if there == event => Some(Candidate {
+            place,
+            cell,
+            arguments,
+            replications: link.indices as usize,
+        }),
+        _ => None,
+    }
 }
 
 /// Whether each target is that a term is equal to itself.
@@ -65,40 +85,37 @@ fn open_variable(scene: Scene, given: &Given, n: NodeId) -> Option<u32> {
 }
 
 impl Search {
-    /// The candidates for an event among what is known at a place, the one that is nearest to the root first.
+    /// The candidates for an event among what is known at a place: the one that is nearest to the root first, or the one that is nearest
+    /// to the place, where the event is marked `inj`, since there more indices are the place's own.
     fn add_candidates(
         &mut self,
         scene: Scene,
-        event: u32,
+        event: RightEvent,
         last: u32,
         cell: Option<usize>,
         list: &mut Vec<Candidate>,
     ) -> Result<(), AllocError> {
-        let known = scene.survey.known(last)?;
+        let mut known = scene.survey.known(last)?;
         if !self.grounds.closure.spend(known.len()) {
             return Ok(());
         }
-        for link in known.iter().rev() {
-            if let Known::Event {
-                event: there,
-                place,
-                arguments,
-            } = link.known
-            {
-                if there == event {
-                    list.push(Candidate {
-                        place,
-                        cell,
-                        arguments,
-                    })?;
-                }
+        if !event.is_once {
+            known.reverse();
+        }
+        for link in &known {
+            if let Some(there) = candidate_by(*link, event.event, cell) {
+                list.push(there)?;
             }
         }
         Ok(())
     }
 
-    /// The candidates for an event: above the place, and then above the only sites of cells, each from the root down.
-    fn candidates(&mut self, scene: Scene, event: u32) -> Result<Vec<Candidate>, AllocError> {
+    /// The candidates for an event: above the place, and then above the only sites of cells.
+    fn candidates(
+        &mut self,
+        scene: Scene,
+        event: RightEvent,
+    ) -> Result<Vec<Candidate>, AllocError> {
         let mut list = Vec::new(scene.alloc);
         self.add_candidates(scene, event, scene.last, None, &mut list)?;
         if scene.is_plain {
@@ -228,38 +245,82 @@ impl Search {
         }
     }
 
+    /// Where a route by a candidate ends.
+    fn end(&mut self, scene: Scene, candidate: Candidate) -> Result<Option<End>, AllocError> {
+        let indices = self.indices(scene, candidate)?;
+        let terms = indices.terms();
+        if candidate.replications > terms.len() {
+            return Ok(None);
+        }
+        let outermost = &terms[..candidate.replications];
+        match copied(scene.alloc, &self.grounds.closure, outermost)? {
+            Some((table, indices)) => Ok(Some(End {
+                place: candidate.place,
+                table,
+                indices,
+            })),
+            None => Ok(None),
+        }
+    }
+
+    /// Whether the route to a right event may go by a candidate: the pairs are found that it needs, where the event is marked `inj`.
+    fn may_take(
+        &mut self,
+        scene: Scene,
+        pairing: &mut Pairing,
+        event: RightEvent,
+        candidate: Candidate,
+    ) -> Result<bool, AllocError> {
+        if !event.is_once {
+            return Ok(true);
+        }
+        let Some(end) = self.end(scene, candidate)? else {
+            return Ok(false);
+        };
+        let left = self.grounds.closure.effort();
+        let mut effort = Effort { left };
+        let is_taken = pairing.take(scene, event.number, end, &mut effort)?;
+        let spent = left.saturating_sub(effort.left);
+        let _may_go_on = self.grounds.closure.spend(spent as usize);
+        Ok(is_taken)
+    }
+
     /// The derivation by which a candidate is a right event, where there is one.
     fn try_candidate(
         &mut self,
         scene: Scene,
-        arguments: Option<NodeId>,
+        pairing: &mut Pairing,
+        event: RightEvent,
         candidate: Candidate,
     ) -> Result<Option<Derivation>, AllocError> {
         let before = self.grounds.closure.terms().len();
         let mut fresh = Given::new(scene.alloc);
-        let Some(targets) = self.targets(scene, arguments, candidate, &mut fresh)? else {
+        let Some(targets) = self.targets(scene, event.arguments, candidate, &mut fresh)? else {
             return Ok(None);
         };
         if scene.is_plain && !are_plain(&targets) {
             return Ok(None);
         }
         self.take(scene, before)?;
-        let derivation = self.derive(scene, &targets)?;
-        if derivation.is_some() {
-            self.given.add_all(&fresh)?;
+        let Some(by) = self.derive(scene, &targets)? else {
+            return Ok(None);
+        };
+        if !self.may_take(scene, pairing, event, candidate)? {
+            return Ok(None);
         }
-        Ok(derivation)
+        self.given.add_all(&fresh)?;
+        Ok(Some(by))
     }
 
     /// The route to a right event.
     fn event_route(
         &mut self,
         scene: Scene,
-        event: u32,
-        arguments: Option<NodeId>,
+        pairing: &mut Pairing,
+        event: RightEvent,
     ) -> Result<Option<Route>, AllocError> {
         for candidate in &self.candidates(scene, event)? {
-            if let Some(by) = self.try_candidate(scene, arguments, *candidate)? {
+            if let Some(by) = self.try_candidate(scene, pairing, event, *candidate)? {
                 return Ok(route(*candidate, by));
             }
         }
@@ -280,12 +341,16 @@ impl Search {
     }
 
     /// The routes to the right events, in order; nothing stands in the place of a right term.
-    fn event_routes(&mut self, scene: Scene) -> Result<Option<Vec<Option<Route>>>, AllocError> {
+    fn event_routes(
+        &mut self,
+        scene: Scene,
+        pairing: &mut Pairing,
+    ) -> Result<Option<Vec<Option<Route>>>, AllocError> {
         let mut routes = Vec::new(scene.alloc);
         for atom in &scene.query.atoms {
             let route = match atom {
-                Atom::Event { event, arguments } => {
-                    let Some(route) = self.event_route(scene, *event, *arguments)? else {
+                Atom::Event(event) => {
+                    let Some(route) = self.event_route(scene, pairing, *event)? else {
                         return Ok(None);
                     };
                     Some(route)
@@ -298,8 +363,12 @@ impl Search {
     }
 
     /// The routes to all that stands on the right: to events first, since they say what variables stand for.
-    fn routes(&mut self, scene: Scene) -> Result<Option<Vec<Route>>, AllocError> {
-        let Some(found) = self.event_routes(scene)? else {
+    fn routes(
+        &mut self,
+        scene: Scene,
+        pairing: &mut Pairing,
+    ) -> Result<Option<Vec<Route>>, AllocError> {
+        let Some(found) = self.event_routes(scene, pairing)? else {
             return Ok(None);
         };
         let mut routes = Vec::new(scene.alloc);
@@ -307,7 +376,7 @@ impl Search {
             let route = match (atom, there) {
                 (_, Some(route)) => Some(route),
                 (Atom::Term(n), None) => self.term_route(scene, *n)?,
-                (Atom::Event { .. }, None) => None,
+                (Atom::Event(_), None) => None,
             };
             let Some(route) = route else {
                 return Ok(None);
@@ -348,16 +417,22 @@ impl Search {
         Ok(true)
     }
 
-    /// The entry of a place by events above it that have the very terms that the query asks for, where it asks for events alone.
-    fn plain_entry(&mut self, scene: Scene, place: u32) -> Result<Option<Entry>, AllocError> {
-        if !scene.query.is_of_events() {
+    /// The entry of a place by events above it that have the very terms that the query asks for, where it asks for events alone, and
+    /// isn't injective: then a place to which no run comes needs no pairs.
+    fn plain_entry(
+        &mut self,
+        scene: Scene,
+        pairing: &mut Pairing,
+        place: u32,
+    ) -> Result<Option<Entry>, AllocError> {
+        if scene.query.is_once || !scene.query.is_of_events() {
             return Ok(None);
         }
         let plain = Scene {
             is_plain: true,
             ..scene
         };
-        self.with_routes(plain, place)
+        self.with_routes(plain, pairing, place)
     }
 
     /// What is said of a place of the left event, where enough follows from what is known there: that the right events plainly stand
@@ -365,13 +440,14 @@ impl Search {
     pub(crate) fn entry(
         &mut self,
         scene: Scene,
+        pairing: &mut Pairing,
         event: Event,
     ) -> Result<Option<Entry>, AllocError> {
         let place = event.place;
         let before = self.grounds.closure.terms().len();
         let are_put = self.put_arguments(scene, event)?;
         if are_put {
-            if let Some(entry) = self.plain_entry(scene, place)? {
+            if let Some(entry) = self.plain_entry(scene, pairing, place)? {
                 return Ok(Some(entry));
             }
         }
@@ -382,12 +458,20 @@ impl Search {
             return Ok(None);
         }
         self.take(scene, before)?;
-        self.with_routes(scene, place)
+        self.with_routes(scene, pairing, place)
     }
 
     /// The entry of a place by routes.
-    fn with_routes(&mut self, scene: Scene, place: u32) -> Result<Option<Entry>, AllocError> {
-        let Some(routes) = self.routes(scene)? else {
+    fn with_routes(
+        &mut self,
+        scene: Scene,
+        pairing: &mut Pairing,
+        place: u32,
+    ) -> Result<Option<Entry>, AllocError> {
+        if scene.query.is_once {
+            pairing.begin(scene, place)?;
+        }
+        let Some(routes) = self.routes(scene, pairing)? else {
             return Ok(None);
         };
         let Some(others) = self.others(scene)? else {

@@ -20,7 +20,6 @@ use Rattle.cv_script.specs.reader.Scripts.{trees_of}
 use Rattle.cv_syntax.specs.declared.work.Work.{Work}
 use Rattle.cv_accept.proofs.Blocks.{declarations_grown, root_grown}
 use Rattle.cv_bound.specs.declared.cost.Cost.{Cost}
-use Rattle.cv_bound.specs.declared.cost.Cost.TheVariants as bound
 use Rattle.cv_kernel.specs.declared.error.PushError.{PushError}
 use Rattle.cv_kernel.specs.declared.error.PushError.TheVariants as fault
 use Rattle.cv_kernel.specs.declared.sequence.Sequence.{Sequence}
@@ -67,7 +66,7 @@ use Rattle.cv_report.specs.verdicts.Verdicts.{ended_with, verdicts_by}
 use Rattle.cv_follow.specs.Scripts.{EndsScript, LacksRoomFor, Stops, Told, entry_in, entry_of, known_to, no_room, refused, too_deep, too_large, too_many, verdicts_of}
 use Rattle.cv_follow.specs.declared.walk.Walk.{Walk}
 use Rattle.cv_follow.specs.Walks.{HasFollowed, IsNoted, IsWalk, closed_before, next_of, stop_of}
-use Rattle.cv_follow.proofs.Closings.{closings_put, nothing_more, numbers_same, sum_put, sums_same, verdicts_length, verdicts_map, verdicts_same}
+use Rattle.cv_follow.proofs.Closings.{closings_put, numbers_same, sum_put, sums_same, verdicts_length, verdicts_map, verdicts_same}
 use Rattle.cv_follow.proofs.StepKinds.{IsJudged, Kind, kind_of}
 use Rattle.cv_follow.proofs.StepKinds as kind
 use Rattle.cv_follow.proofs.Walked.{last_is, nodes_append}
@@ -165,9 +164,9 @@ module _ (before : ℕ) (ds : List Declaration) (own : ℕ) (first : Tree) (old 
   change_said : (s : Sequence) (ks : List ℕ) (step : Tree) (j : Judgement) → closing_in step ≡ None → judgement_at (code_scene s) step ≡ j → saying_of j ≡ saying_of (judgement_in (file_scene s) ks step)
   change_said s ks step j n e = ap saying_of (sym e ∙ (ap (λ x. judgement_at x step) (scenes s) ∙ ap (judgement_by_closing (file_scene s) ks step) (sym n)))
 
-  close_said : (s : Sequence) (ks : List ℕ) (step : Tree) (c : Closing) (o : Option Failure) → closing_in step ≡ Some c → numbers_of s.closed ≡ ks → closing_failure (code_scene s) (numbers_of s.closed) c ≡ o → saying_of (judgement_of_failure (file_scene s) o) ≡ saying_of (judgement_in (file_scene s) ks step)
+  close_said : (s : Sequence) (ks : List ℕ) (step : Tree) (c : Closing) (o : Option Failure) → closing_in step ≡ Some c → numbers_of s.closed ≡ ks → closing_failure (code_scene s) (numbers_of s.closed) c ≡ o → saying_of (judgement_of_failure (file_scene s) c.certificate o) ≡ saying_of (judgement_in (file_scene s) ks step)
   close_said s ks step c o i k e =
-      ap saying_of (ap (judgement_of_failure (file_scene s)) (sym e ∙ ap₂ (λ x ls. closing_failure x ls c) (scenes s) k)
+      ap saying_of (ap (judgement_of_failure (file_scene s) c.certificate) (sym e ∙ ap₂ (λ x ls. closing_failure x ls c) (scenes s) k)
       ∙ ap (judgement_by_closing (file_scene s) ks step) (sym i))
 
   numbers : (front : List Tree) (s : Sequence) (trail : List Entry) (h : HasFollowed before ds own first front old.trees s trail) → numbers_of s.closed ≡ closed_by h.proof
@@ -271,9 +270,10 @@ module _ (before : ℕ) (ds : List Declaration) (own : ℕ) (first : Tree) (old 
         }
 
     -- one that closes a query
-    close_leaves : (c : Closing) → IsJudged (items_of_step tree) → closing_in tree ≡ Some c → numbers_of s.closed ≡ ks → s.game.root.0 < length old.trees → Grows old new → closing_failure (code_scene s) (numbers_of s.closed) c ≡ None → kernel.IsClosing c s t → Leaves s t tree ks cost
+    close_leaves : (c : Closing) → IsJudged (items_of_step tree) → closing_in tree ≡ Some c → numbers_of s.closed ≡ ks → s.game.root.0 < length old.trees → Grows old new → closing_failure (code_scene s) (numbers_of s.closed) c ≡ None → kernel.IsClosing (code_scene s) c s t → Leaves s t tree ks cost
     close_leaves c j n k l g f w =
-        let costs : cost ≡ bound.Zero = some_injective (sym m ∙ w.cost) in
+        let taken : cost ≡ kernel.closing_cost (code_scene s) c = some_injective (sym m ∙ w.cost) in
+        let costs : cost ≡ kernel.closing_cost (file_scene s) c = taken ∙ ap (λ x. kernel.closing_cost x c) (scenes s) in
         let game : kernel.game_in new.trees t ≡ kernel.game_in old.trees s = ap (λ (q : Game). tree_at new.trees (Some q.root)) w.game ∙ root_grown old new s.game.root g l in
         record {
           said = j.said (file_scene s) ks (suc s.steps) tree _ (ap₂ Accepted game costs ∙ close_said s ks tree c None n k f);
@@ -281,7 +281,7 @@ module _ (before : ℕ) (ds : List Declaration) (own : ℕ) (first : Tree) (old 
           steps = w.steps;
           sum = w.sum ∙ ap (λ o. sums_behind s.sum o cost) (sym n);
           closed = w.closed
-              ∙ (ap (λ (x : Sums). s.closed ++ record { query = c.query; sum = sum_for (is_of_secrecy c) x } ∷ []) (sym (nothing_more s.sum) ∙ ap (with_cost s.sum) (sym costs))
+              ∙ (ap (λ (x : Sums). s.closed ++ record { query = c.query; sum = sum_for (is_of_secrecy c) x } ∷ []) (ap (with_cost s.sum) (sym taken))
               ∙ ap (λ o. s.closed ++ closed_before s.sum cost o []) (sym n));
         }
 
@@ -328,7 +328,7 @@ module _ (before : ℕ) (ds : List Declaration) (own : ℕ) (first : Tree) (old 
           subst (Stops taken s.steps _ ks step) (some_injective i) (no_room k b (subst (λ o. LacksRoomFor taken (file_scene s) ks step o k) (sym q) (room_wider (length old.trees) taken (file_scene s) e x k m r)))
       reduce_stops (fault.Build build.OutOfMemory) end p i l m = absurd (cc)
 
-    close_stops : (c : Closing) (e : PushError) (end : Status) → IsJudged (items_of_step step) → closing_in step ≡ Some c → numbers_of s.closed ≡ ks → kernel.IsCloseAnswer (closing_failure (code_scene s) (numbers_of s.closed) c) c s t (Err e) → stop_of e s.steps ≡ Some end → Stops taken s.steps (file_scene s) ks step end
+    close_stops : (c : Closing) (e : PushError) (end : Status) → IsJudged (items_of_step step) → closing_in step ≡ Some c → numbers_of s.closed ≡ ks → kernel.IsCloseAnswer (code_scene s) (closing_failure (code_scene s) (numbers_of s.closed) c) c s t (Err e) → stop_of e s.steps ≡ Some end → Stops taken s.steps (file_scene s) ks step end
     close_stops c (fault.Refused f) end j n k p i = subst (Stops taken s.steps _ ks step) (some_injective i) (refused f.condition f.place b (j.said (file_scene s) ks (suc s.steps) step _ (close_said s ks step c _ n k p)))
     close_stops c fault.Steps end j n k p i = absurd p
     close_stops c (fault.Build (build.Nodes x)) end j n k p i = absurd p

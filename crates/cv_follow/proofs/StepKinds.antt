@@ -6,7 +6,6 @@ use Rattle.cv_pool.specs.PoolView.{PoolView}
 use Rattle.cv_syntax.specs.Classes.{DeclsView}
 use Rattle.cv_syntax_trees.specs.Tree.{Tree}
 use Rattle.cv_bound.specs.declared.cost.Cost.{Cost as SumCost}
-use Rattle.cv_bound.specs.declared.cost.Cost.TheVariants as bound
 use Rattle.cv_query_certificates.specs.Failures.{Failure}
 use Rattle.cv_scene_view.specs.Kept.{scene_of}
 use Rattle.cv_scene.specs.Scenes.{Scene}
@@ -26,7 +25,7 @@ use Rattle.cv_kernel.specs.Answers.{HasNoRoom}
 use Rattle.cv_kernel.specs.Rules.{Rule, rule_in, rule_of_items}
 use Rattle.cv_kernel.specs.Sayings.{Accepted, MaySay, Saying, saying_by, saying_of}
 use Rattle.cv_bound.specs.costs.Costs.{advantage_of}
-use Rattle.cv_kernel.specs.Sequences.{IsPushAnswer, IsStepAnswer, game_in, needed, needed_for}
+use Rattle.cv_kernel.specs.Sequences.{IsPushAnswer, IsStepAnswer, closing_cost, game_in, needed, needed_for}
 use Rattle.cv_kernel.specs.Steps.{judgement_by}
 use Rattle.cv_accept.specs.Accepted.{most_pool}
 use Rattle.cv_follow.specs.Scripts.{LacksRoomFor}
@@ -107,21 +106,21 @@ module _ (s : Scene) (next : Tree) (cost : SumCost) where
   pub passage : (ks : List ℕ) (t : Tree) → closing_in t ≡ None → Accepted next cost ≡ saying_of (judgement_in s ks t) → IsPassage s next cost
   passage ks t n w = passage_of (items_of_step t) (w ∙ ap (λ c. saying_of (judgement_by_closing s ks t c)) n)
 
--- of a step that closes a query: the game stays, and it costs nothing
-pub record IsClosure (s : Scene) (o : Option Failure) (next : Tree) (cost : SumCost) : Type 0 where
+-- of a step that closes a query: the game stays, and it costs what its certificate does
+pub record IsClosure (s : Scene) (c : Closing) (o : Option Failure) (next : Tree) (cost : SumCost) : Type 0 where
   pub game : next ≡ s.game
-  pub costs : cost ≡ bound.Zero
+  pub costs : cost ≡ closing_cost s c
   pub passes : o ≡ None
 
-closure_by : (s : Scene) (o : Option Failure) (next : Tree) (cost : SumCost) → Accepted next cost ≡ saying_of (judgement_of_failure s o) → IsClosure s o next cost
-closure_by s None next cost i = record { game = cc; costs = cc; passes = refl }
-closure_by s (Some f) next cost i = absurd (cc)
+closure_by : (s : Scene) (c : Closing) (o : Option Failure) (next : Tree) (cost : SumCost) → Accepted next cost ≡ saying_of (judgement_of_failure s c.certificate o) → IsClosure s c o next cost
+closure_by s c None next cost i = record { game = cc; costs = cc; passes = refl }
+closure_by s c (Some f) next cost i = absurd (cc)
 
 closing_judged : (s : Scene) (ks : List ℕ) (n : ℕ) (t : Tree) (c : Closing) (w : Saying) (o : Option StepItems) → items_of_step t ≡ o → closing_in t ≡ Some c → Kind o → MaySay s ks n t o w → w ≡ saying_of (judgement_in s ks t)
 closing_judged s ks n t c w o i e (judged j v) h = j.says s ks n t w h
 closing_judged s ks n t c w o i e (reduces d x q) h = absurd (let z = sym e ∙ ap (option_and_then closing_of_items) (i ∙ q) in cc)
 
-pub closure : (s : Scene) (ks : List ℕ) (n : ℕ) (t : Tree) (c : Closing) (next : Tree) (cost : SumCost) → closing_in t ≡ Some c → MaySay s ks n t (items_of_step t) (Accepted next cost) → IsClosure s (closing_failure s ks c) next cost
+pub closure : (s : Scene) (ks : List ℕ) (n : ℕ) (t : Tree) (c : Closing) (next : Tree) (cost : SumCost) → closing_in t ≡ Some c → MaySay s ks n t (items_of_step t) (Accepted next cost) → IsClosure s c (closing_failure s ks c) next cost
 closure s ks n t c next cost e h =
-    closure_by s (closing_failure s ks c) next cost
+    closure_by s c (closing_failure s ks c) next cost
     (closing_judged s ks n t c (Accepted next cost) (items_of_step t) refl e (kind_of (items_of_step t)) h ∙ ap (λ o. saying_of (judgement_by_closing s ks t o)) e)

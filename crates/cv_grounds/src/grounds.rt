@@ -1,7 +1,7 @@
 // What is known at a place of a game, in a closure.
 use crate::survey::{Known, Link, Survey};
 use crate::translating::{Given, translate};
-use cv_closure::{Cell, Closure, Source, TermId, Theory};
+use cv_closure::{Cell, Closure, Source, Standing, TermId, Theory};
 use cv_syntax::{Head, NodeId, Pool};
 use std::alloc::{AllocError, Global};
 
@@ -27,21 +27,31 @@ pub struct LateCell {
     pub indices: Vec<(TermId, TermId)>,
 }
 
-/// Whose facts are added: the place's own, or those at the site of a cell, with the cell's index terms and how far cells are
+/// Whose facts are added: a place's own, or those at the site of a cell, with the cell's index terms and how far cells are
 /// that stand there.
 #[derive(Drop)]
 struct Origin {
-    of: Option<usize>,
+    standing: Standing,
     indices: Vec<TermId>,
     depth: u32,
 }
 
 impl Origin {
+    /// Of a place.
+    fn at(alloc: Global, standing: Standing) -> Origin {
+        Origin {
+            standing,
+            indices: Vec::new(alloc),
+            depth: 0,
+        }
+    }
+
     /// How a fact of this number is right.
     fn source(&self, fact: u32) -> Source {
-        match self.of {
-            None => Source::Fact(fact),
-            Some(cell) => Source::Site { cell, fact },
+        match self.standing {
+            Standing::Here => Source::Fact(fact),
+            Standing::There => Source::OtherFact(fact),
+            Standing::Behind(cell) => Source::Site { cell, fact },
         }
     }
 }
@@ -55,6 +65,14 @@ fn variable_of(closure: &Closure, cell: TermId) -> Option<u32> {
 }
 
 impl Grounds {
+    /// Nothing is known, and what follows may take so much effort.
+    pub(crate) fn nothing(alloc: Global, effort: u32) -> Result<Grounds, AllocError> {
+        Ok(Grounds {
+            closure: Closure::new(alloc, effort)?,
+            depths: Vec::new(alloc),
+        })
+    }
+
     /// What is known at a place, and what follows from it with so much effort.
     pub fn at(
         alloc: Global,
@@ -64,31 +82,37 @@ impl Grounds {
         last: u32,
         effort: u32,
     ) -> Result<Grounds, AllocError> {
-        let mut grounds = Grounds {
-            closure: Closure::new(alloc, effort)?,
-            depths: Vec::new(alloc),
-        };
-        let place = Origin {
-            of: None,
-            indices: Vec::new(alloc),
-            depth: 0,
-        };
-        grounds.add_known(alloc, pool, survey, last, &place)?;
+        let mut grounds = Grounds::nothing(alloc, effort)?;
+        let _indices = grounds.add_place(alloc, pool, survey, last, Standing::Here)?;
         grounds.add_sites(alloc, pool, survey)?;
         grounds.closure.saturate(theory)?;
         Ok(grounds)
     }
 
-    /// Adds an index: at the place it is itself, at a site the cell's index term stands for it.
+    /// Adds all that is known at a place, and gives its indices: in the second copy with their marks.
+    pub(crate) fn add_place(
+        &mut self,
+        alloc: Global,
+        pool: &Pool,
+        survey: &Survey,
+        last: u32,
+        standing: Standing,
+    ) -> Result<Given, AllocError> {
+        self.add_known(alloc, pool, survey, last, &Origin::at(alloc, standing))
+    }
+
+    /// Adds an index: at a place it is itself, in the second copy with its mark, and at a site the cell's index term stands for
+    /// it.
     fn add_index(
         &mut self,
         given: &mut Given,
         origin: &Origin,
         index: u32,
     ) -> Result<(), AllocError> {
-        let there = match origin.of {
-            Some(_) => origin.indices.get(given.len()).copied(),
-            None => self.closure.term(Head::Leaf(index), &[])?,
+        let there = match origin.standing {
+            Standing::Behind(_) => origin.indices.get(given.len()).copied(),
+            Standing::Here => self.closure.term(Head::Leaf(index), &[])?,
+            Standing::There => self.closure.term(Head::Primed(index), &[])?,
         };
         match there {
             Some(term) => given.add(index, term),
@@ -105,15 +129,54 @@ impl Grounds {
         origin: &Origin,
         n: NodeId,
     ) -> Result<(), AllocError> {
-        let Some(term) = translate(alloc, &mut self.closure, pool, given, n)? else {
-            return Ok(());
-        };
+        match translate(alloc, &mut self.closure, pool, given, n)? {
+            Some(term) => self.add_defined(origin, term),
+            None => Ok(()),
+        }
+    }
+
+    /// Adds a cell that is defined by its term, where it isn't known to be.
+    fn add_defined(&mut self, origin: &Origin, term: TermId) -> Result<(), AllocError> {
         if self.closure.cell_of(term).is_some() {
             return Ok(());
         }
-        let of = origin.of;
-        let _number = self.closure.add_cell(Cell { term, of })?;
+        let standing = origin.standing;
+        let _number = self.closure.add_cell(Cell { term, standing })?;
         self.depths.push(origin.depth)?;
+        Ok(())
+    }
+
+    /// Adds the cell of an array whose values are taken to differ, where it was chosen at random under so many indices.
+    fn add_choice(
+        &mut self,
+        given: &Given,
+        origin: &Origin,
+        array: u32,
+        indices: usize,
+    ) -> Result<(), AllocError> {
+        let terms = given.terms();
+        if !self.closure.is_told_apart(array) || indices > terms.len() {
+            return Ok(());
+        }
+        match self.closure.term(Head::Read(array), &terms[..indices])? {
+            Some(term) => self.add_defined(origin, term),
+            None => Ok(()),
+        }
+    }
+
+    /// Adds the cells of arrays whose values are taken to differ that were chosen at random above.
+    fn add_choices(
+        &mut self,
+        survey: &Survey,
+        last: u32,
+        given: &Given,
+        origin: &Origin,
+    ) -> Result<(), AllocError> {
+        for link in &survey.choices(last)? {
+            if let Known::Chosen(array) = link.known {
+                self.add_choice(given, origin, array, link.indices as usize)?;
+            }
+        }
         Ok(())
     }
 
@@ -188,6 +251,7 @@ impl Grounds {
         for link in known.iter().rev() {
             self.add_link(alloc, pool, &mut given, origin, *link)?;
         }
+        self.add_choices(survey, last, &given, origin)?;
         Ok(given)
     }
 
@@ -221,7 +285,7 @@ impl Grounds {
             return Ok(());
         }
         let origin = Origin {
-            of: Some(k),
+            standing: Standing::Behind(k),
             indices: self.indices(alloc, cell.term)?,
             depth: depth.saturating_add(1),
         };
@@ -230,7 +294,12 @@ impl Grounds {
     }
 
     /// Adds what is known at the sites of cells, of those too that are found so.
-    fn add_sites(&mut self, alloc: Global, pool: &Pool, survey: &Survey) -> Result<(), AllocError> {
+    pub(crate) fn add_sites(
+        &mut self,
+        alloc: Global,
+        pool: &Pool,
+        survey: &Survey,
+    ) -> Result<(), AllocError> {
         for k in 0..MOST_CELLS {
             if k >= self.closure.cells().len() {
                 return Ok(());
@@ -254,15 +323,13 @@ impl Grounds {
         last: u32,
         cell: Option<usize>,
     ) -> Result<Given, AllocError> {
-        let indices = match cell.and_then(|k| self.closure.cells().get(k).copied()) {
-            Some(there) => self.indices(alloc, there.term)?,
-            None => Vec::new(alloc),
-        };
-        let origin = Origin {
-            of: cell,
-            indices,
-            depth: 0,
-        };
+        let mut origin = Origin::at(alloc, Standing::Here);
+        if let Some(k) = cell {
+            origin.standing = Standing::Behind(k);
+            if let Some(there) = self.closure.cells().get(k).copied() {
+                origin.indices = self.indices(alloc, there.term)?;
+            }
+        }
         let mut given = Given::new(alloc);
         let known = survey.known(last)?;
         if !self.closure.spend(known.len()) {

@@ -1,18 +1,20 @@
 // Which variables come later than a place: each of their definitions stands at the place or below it, or in another body of an
-// `if` or a `find` above it.
+// `if` or a `find` above it. And what parts two places.
 use crate::nodes::{binders, open};
 use cv_scope_rules::Position;
 use cv_syntax::{Head, NodeId, Opened, Pool};
 use std::alloc::{AllocError, Global};
 use std::collections::HashMap;
 
-/// A part of a game up to a fork: the place where it begins, the part above, counted from 1, or 0, and whether it ends with a parallel
-/// composition. Each side of one begins a part, and each body of an `if` or a `find`.
+/// A part of a game up to a fork: the place where it begins, the part above, counted from 1, or 0, whether it ends with a parallel
+/// composition, and how many replications stand above its end. Each side of a parallel composition begins a part, and each body of
+/// an `if` or a `find`.
 #[derive(Clone, Copy)]
 struct Stretch {
     place: u32,
     above: u32,
     is_parallel: bool,
+    replications: u32,
 }
 
 /// A definition of a variable: its place, its stretch, and the definition of the variable that was seen before, counted from 1, or
@@ -24,12 +26,14 @@ struct Site {
     before: u32,
 }
 
-/// A node on the way: what the tree is for the node above, the stretch, and the indices of the branch around.
+/// A node on the way: what the tree is for the node above, the stretch, the indices of the branch around, and how many replications
+/// stand above.
 #[derive(Clone, Copy)]
 struct Walk {
     position: Position,
     stretch: u32,
     own: Option<NodeId>,
+    replications: u32,
 }
 
 /// Where the variables of a game are defined.
@@ -56,6 +60,7 @@ impl Lateness {
             position: Position::Anywhere,
             stretch: lateness.begin(0)?,
             own: None,
+            replications: 0,
         };
         lateness.walk(pool, game, walk)?;
         Ok(lateness)
@@ -67,6 +72,7 @@ impl Lateness {
             place: self.place,
             above,
             is_parallel: false,
+            replications: 0,
         })?;
         Ok(u32::try_from(self.stretches.len()).unwrap_or(0))
     }
@@ -87,13 +93,14 @@ impl Lateness {
         self.sites.get(number as usize - 1).copied()
     }
 
-    /// Notes that a stretch ends with a parallel composition.
-    fn end_parallel(&mut self, number: u32) {
-        if number == 0 {
+    /// Notes with what a stretch ends, and how many replications stand above.
+    fn end(&mut self, walk: Walk, is_parallel: bool) {
+        if walk.stretch == 0 {
             return;
         }
-        if let Some(stretch) = self.stretches.get_mut(number as usize - 1) {
-            stretch.is_parallel = true;
+        if let Some(stretch) = self.stretches.get_mut(walk.stretch as usize - 1) {
+            stretch.is_parallel = is_parallel;
+            stretch.replications = walk.replications;
         }
     }
 
@@ -137,7 +144,11 @@ impl Lateness {
                 None => Ok(()),
             },
             Head::Par => {
-                self.end_parallel(walk.stretch);
+                self.end(walk, true);
+                Ok(())
+            }
+            Head::If | Head::Find(_) => {
+                self.end(walk, false);
                 Ok(())
             }
             _ => Ok(()),
@@ -154,7 +165,7 @@ impl Lateness {
         Ok(Walk {
             position: walk.position.first(node.head),
             stretch,
-            own: walk.own,
+            ..walk
         })
     }
 
@@ -177,10 +188,15 @@ impl Lateness {
             Head::Branch => node.first,
             _ => walk.own,
         };
+        let replications = match node.head {
+            Head::Repl(_, _) => walk.replications.saturating_add(1),
+            _ => walk.replications,
+        };
         Ok(Walk {
             position: walk.position.second(node.head),
             stretch,
             own,
+            replications,
         })
     }
 
@@ -272,6 +288,21 @@ impl Lateness {
         match self.stretch(meeting) {
             Some(fork) => !fork.is_parallel,
             None => false,
+        }
+    }
+
+    /// How many replications stand above the `if` or `find` that parts two places, if they stand in two bodies of one and it is the
+    /// lowest construct above both, where that is found with the effort that is left.
+    pub fn parting(&self, p: u32, q: u32, left: &mut u32) -> Option<u32> {
+        let one = self.stretch_at(p);
+        let other = self.stretch_at(q);
+        let meeting = self.meeting(one, other, left)?;
+        if meeting == one || meeting == other {
+            return None;
+        }
+        match self.stretch(meeting) {
+            Some(fork) if !fork.is_parallel => Some(fork.replications),
+            _ => None,
         }
     }
 

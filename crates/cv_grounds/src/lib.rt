@@ -1,10 +1,11 @@
-// What is known at a place of a game, as a proposal of a proof asks for it: one survey of the game, and the closure of the
-// facts at a place.
+// What is known at a place of a game, or at two, as a proposal of a proof asks for it: one survey of the game, and the closure of
+// the facts there.
 #![tactic(auto)]
 
 mod grounds;
 mod lateness;
 mod nodes;
+mod pairs;
 mod planting;
 mod survey;
 mod theories;
@@ -13,6 +14,7 @@ mod translating;
 pub use grounds::{Grounds, LateCell};
 pub use lateness::Lateness;
 pub use nodes::{binders, items, nodes_up_to, open};
+pub use pairs::{Copies, End};
 pub use planting::plant_terms;
 pub use survey::{Event, Known, Link, Part, Side, Survey};
 pub use theories::theory_of;

@@ -1,10 +1,11 @@
-// What is known at each place of a game, the sites of variables, the events, and the bodies of tests.
+// What is known at each place of a game, the sites of variables, the arrays that are chosen at random, the events, and the bodies of
+// tests.
 use crate::lateness::Lateness;
 use crate::nodes::{binders, items, open};
 use cv_scope_rules::Position;
 use cv_syntax::{Game, Head, NodeId, Opened, Pool};
 use std::alloc::{AllocError, Global};
-use std::collections::HashMap;
+use std::collections::{HashMap, HashSet};
 
 /// What a construct gives to the places below it.
 #[derive(Clone, Copy)]
@@ -13,6 +14,8 @@ pub enum Known {
     Index(u32),
     /// A cell of a `defined` list.
     Cell(NodeId),
+    /// A variable is chosen at random.
+    Chosen(u32),
     /// A variable, at the current indices, is equal to a term.
     Equal {
         variable: u32,
@@ -30,20 +33,23 @@ pub enum Known {
     },
 }
 
-/// What is known at a place: the newest, how many facts there are with it, and the link to what is known besides, counted from
-/// 1, or 0.
+/// What is known at a place: the newest, how many facts and how many indices there are with it, and the link to what is known
+/// besides, counted from 1, or 0.
 #[derive(Clone, Copy)]
 pub struct Link {
     pub known: Known,
     pub facts: u32,
+    pub indices: u32,
     before: u32,
 }
 
-/// The definitions of a variable that were seen: whether there is one alone, and what is known behind the last one.
+/// The definitions of a variable that were seen: whether there is one alone, what is known behind the last one, and the type of which
+/// all of them choose at random, where they do.
 #[derive(Clone, Copy)]
 struct Site {
     is_only: bool,
     last: u32,
+    choice: Option<u32>,
 }
 
 /// An event of a game: its name, its place, its arguments, and what is known there.
@@ -89,6 +95,7 @@ pub struct Survey {
     alloc: Global,
     links: Vec<Link>,
     sites: HashMap<u32, Site>,
+    arrays: Vec<u32>,
     events: Vec<Event>,
     parts: Vec<Part>,
     lateness: Lateness,
@@ -102,6 +109,7 @@ impl Survey {
             alloc,
             links: Vec::new(alloc),
             sites: HashMap::new(alloc),
+            arrays: Vec::new(alloc),
             events: Vec::new(alloc),
             parts: Vec::new(alloc),
             lateness: Lateness::of(alloc, pool, game.root)?,
@@ -150,33 +158,76 @@ impl Survey {
         self.links.get(number as usize - 1).copied()
     }
 
-    /// All that is known, from the newest to the oldest.
-    pub fn known(&self, last: u32) -> Result<Vec<Link>, AllocError> {
-        let mut known = Vec::new(self.alloc);
+    /// What is known, from the newest to the oldest: choices at random alone, or all else.
+    fn chain(&self, last: u32, are_choices: bool) -> Result<Vec<Link>, AllocError> {
+        let mut links = Vec::new(self.alloc);
         let mut number = last;
         for _ in 0..self.links.len() {
             let Some(link) = self.link(number) else {
-                return Ok(known);
+                return Ok(links);
             };
-            known.push(link)?;
+            if matches!(link.known, Known::Chosen(_)) == are_choices {
+                links.push(link)?;
+            }
             number = link.before;
         }
-        Ok(known)
+        Ok(links)
+    }
+
+    /// All that is known but for choices at random, from the newest to the oldest.
+    pub fn known(&self, last: u32) -> Result<Vec<Link>, AllocError> {
+        self.chain(last, false)
+    }
+
+    /// The choices at random that are known, from the newest to the oldest.
+    pub fn choices(&self, last: u32) -> Result<Vec<Link>, AllocError> {
+        self.chain(last, true)
+    }
+
+    /// Whether all definitions of a variable choose at random of one of these types.
+    fn is_choice_of(&self, variable: u32, types: &HashSet<u32>) -> bool {
+        match self.sites.get(&variable) {
+            Some(site) => match site.choice {
+                Some(ty) => types.contains(&ty),
+                None => false,
+            },
+            None => false,
+        }
+    }
+
+    /// The arrays, in the order of their first definitions, all of whose definitions choose at random of one of these types.
+    pub fn random_arrays(&self, types: &HashSet<u32>) -> Result<Vec<u32>, AllocError> {
+        let mut arrays = Vec::new(self.alloc);
+        for array in &self.arrays {
+            if self.is_choice_of(*array, types) {
+                arrays.push(*array)?;
+            }
+        }
+        Ok(arrays)
+    }
+
+    /// How many facts and indices there are with a link.
+    fn counts(&self, last: u32) -> (u32, u32) {
+        match self.link(last) {
+            Some(link) => (link.facts, link.indices),
+            None => (0, 0),
+        }
     }
 
     /// Adds what is known to what is known besides.
     fn add(&mut self, before: u32, known: Known) -> Result<u32, AllocError> {
-        let there = match self.link(before) {
-            Some(link) => link.facts,
-            None => 0,
-        };
-        let facts = match known {
-            Known::Equal { .. } | Known::Holds(_) | Known::Fails(_) => there.saturating_add(1),
-            _ => there,
-        };
+        let (mut facts, mut indices) = self.counts(before);
+        match known {
+            Known::Equal { .. } | Known::Holds(_) | Known::Fails(_) => facts = facts.saturating_add(
+                1,
+            ),
+            Known::Index(_) => indices = indices.saturating_add(1),
+            _ => {}
+        }
         self.links.push(Link {
             known,
             facts,
+            indices,
             before,
         })?;
         Ok(u32::try_from(self.links.len()).unwrap_or(0))
@@ -196,17 +247,37 @@ impl Survey {
         }
     }
 
-    /// Notes a definition of a variable.
-    fn note(&mut self, variable: u32, last: u32) -> Result<(), AllocError> {
-        let is_only = self.sites.get(&variable).is_none();
-        self.sites.insert(variable, Site { is_only, last })?;
+    /// Notes a definition of a variable, with the type of which it chooses at random, where it does.
+    fn note(&mut self, variable: u32, last: u32, ty: Option<u32>) -> Result<(), AllocError> {
+        let (is_only, choice) = match self.sites.get(&variable) {
+            Some(site) if site.choice == ty => (false, ty),
+            Some(_) => (false, None),
+            None => (true, ty),
+        };
+        let site = Site {
+            is_only,
+            last,
+            choice,
+        };
+        self.sites.insert(variable, site)?;
         Ok(())
+    }
+
+    /// Adds a choice at random of a variable.
+    fn choose(&mut self, before: u32, variable: u32, ty: u32) -> Result<u32, AllocError> {
+        let (_facts, indices) = self.counts(before);
+        if indices > 0 && self.sites.get(&variable).is_none() {
+            self.arrays.push(variable)?;
+        }
+        let last = self.add(before, Known::Chosen(variable))?;
+        self.note(variable, last, Some(ty))?;
+        Ok(last)
     }
 
     /// Notes a definition of each variable of a list of binders.
     fn note_all(&mut self, pool: &Pool, list: Option<NodeId>, last: u32) -> Result<(), AllocError> {
         for variable in &binders(self.alloc, pool, list)? {
-            self.note(*variable, last)?;
+            self.note(*variable, last, None)?;
         }
         Ok(())
     }
@@ -282,7 +353,7 @@ impl Survey {
             Some(term) => self.add(before, Known::Equal { variable, term })?,
             None => before,
         };
-        self.note(variable, last)?;
+        self.note(variable, last, None)?;
         Ok(last)
     }
 
@@ -304,10 +375,7 @@ impl Survey {
                 }
                 Ok(walk.last)
             }
-            Head::New(variable, _) => {
-                self.note(variable, walk.last)?;
-                Ok(walk.last)
-            }
+            Head::New(variable, ty) => self.choose(walk.last, variable, ty),
             Head::Let(variable, _) => self.define(walk.last, variable, node.first),
             Head::Event(event) => {
                 let arguments = node.first;

@@ -1,4 +1,4 @@
-// What a file declares of its functions.
+// What a file declares of its functions and types.
 use crate::nodes::{binders, open};
 use crate::translating::translate_pattern;
 use cv_closure::{Equation, Terms, Theory};
@@ -35,12 +35,13 @@ fn add_equation(
     Ok(())
 }
 
-/// The declared equations, and the functions that are `[data]`.
+/// The declared equations, the functions that are `[data]`, and the types that are `[large]`.
 pub fn theory_of(alloc: Global, pool: &Pool, decls: &Decls) -> Result<Theory, AllocError> {
     let mut theory = Theory {
         patterns: Terms::new(alloc, MOST_PATTERNS)?,
         equations: Vec::new(alloc),
         data: HashSet::new(alloc),
+        large: HashSet::new(alloc),
     };
     let mut equations = 0_u32;
     for k in 0..decls.len() {
@@ -53,6 +54,15 @@ pub fn theory_of(alloc: Global, pool: &Pool, decls: &Decls) -> Result<Theory, Al
                 },
             ) => {
                 theory.data.insert(id.0)?;
+            }
+            Some(
+                Decl::Name {
+                    id,
+                    class: Class::TypeName { large: true, .. },
+                    ..
+                },
+            ) => {
+                theory.large.insert(id.0)?;
             }
             Some(Decl::Equation(n)) => {
                 equations = equations.saturating_add(1);

@@ -116,3 +116,67 @@ pub fn translate_pattern(
     }
     patterns.add(node.head, &terms)
 }
+
+/// The term of this number of a table as one of a closure, with terms for names, by those of the terms before it.
+fn transfer_term(
+    alloc: Global,
+    closure: &mut Closure,
+    given: &Given,
+    table: &Terms,
+    t: TermId,
+    before: &[TermId],
+) -> Result<Option<TermId>, AllocError> {
+    let Some(head) = table.head(t) else {
+        return Ok(None);
+    };
+    if let Head::Leaf(x) = head {
+        if let Some(term) = given.get(x) {
+            return Ok(Some(term));
+        }
+    }
+    let mut arguments = Vec::new(alloc);
+    for argument in table.arguments(t) {
+        let Some(there) = before.get(argument.0 as usize) else {
+            return Ok(None);
+        };
+        arguments.push(*there)?;
+    }
+    closure.term(head, &arguments)
+}
+
+/// The terms of a table as those of a closure, with terms for names; fewer where the closure is full.
+fn transfer_all(
+    alloc: Global,
+    closure: &mut Closure,
+    given: &Given,
+    table: &Terms,
+) -> Result<Vec<TermId>, AllocError> {
+    let mut terms = Vec::new(alloc);
+    for number in 0..table.len() {
+        let there = transfer_term(alloc, closure, given, table, TermId(number), &terms)?;
+        let Some(term) = there else {
+            return Ok(terms);
+        };
+        terms.push(term)?;
+    }
+    Ok(terms)
+}
+
+/// Terms of a table as those of a closure, with terms for names; fewer, the first ones, where the closure is full.
+pub(crate) fn transfer(
+    alloc: Global,
+    closure: &mut Closure,
+    given: &Given,
+    table: &Terms,
+    wanted: &[TermId],
+) -> Result<Vec<TermId>, AllocError> {
+    let all = transfer_all(alloc, closure, given, table)?;
+    let mut terms = Vec::new(alloc);
+    for t in wanted {
+        let Some(term) = all.get(t.0 as usize) else {
+            return Ok(terms);
+        };
+        terms.push(*term)?;
+    }
+    Ok(terms)
+}

@@ -3,8 +3,8 @@ use Rattle.std.proofs.Common.{ℕ, ◌<◌, ◌≤◌, ◌^◌, arith}
 use Rattle.cv_syntax_trees.specs.declared.head.Head.TheVariants as head
 use Rattle.cv_syntax.specs.Postorder.{postorder}
 use Rattle.cv_syntax_trees.specs.Tree.{Tree, Empty, Node}
-use Rattle.cv_query.specs.Countable.{AreCountable, AreCountableParts, IsCountable, IsCountableCertificate, IsCountableSaying, derivation_by}
-use Rattle.cv_query_entries.specs.Said.{cell_way, saying_at, saying_of, way_of}
+use Rattle.cv_query_parts.specs.Countable.{AreCountable, AreCountableParts, IsCountable, IsCountableCertificate, IsCountablePart, IsCountableSaying, derivation_by}
+use Rattle.cv_query_parts.specs.Said.{cell_way, saying_at, saying_of, way_of}
 use Rattle.cv_syntax.specs.limits.Limits.{nodes_of}
 use Rattle.cv_kernel.proofs.Nodes.{lines_nodes, nodes_node}
 
@@ -39,9 +39,15 @@ saying_countable n (Node head.NeverEntry by e) l = countable by (Node head.Never
 saying_countable n (Node head.WithEntry ws routes) l = routes_countable routes (omega (arith, nodes_node head.WithEntry ws routes))
 saying_countable n (Node h a b) l = tt
 
-part_countable : (part : Tree) → nodes_of part < 2 ^ 31 → IsCountableSaying (saying_of part)
+pair_countable : (p rest : Tree) → nodes_of rest < 2 ^ 31 → IsCountablePart (Node head.Pair p rest)
+pair_countable p Empty l = tt
+pair_countable p (Node h q Empty) l = tt
+pair_countable p (Node h q (Node g c by)) l = countable by (Node h q (Node g c by)) (omega (arith, nodes_node h q (Node g c by), nodes_node g c by)) l
+
+part_countable : (part : Tree) → nodes_of part < 2 ^ 31 → IsCountablePart part
 part_countable Empty l = tt
 part_countable (Node head.AtEntry n rest) l = saying_countable n rest (omega (arith, nodes_node head.AtEntry n rest))
+part_countable (Node head.Pair p rest) l = pair_countable p rest (omega (arith, nodes_node head.Pair p rest))
 part_countable (Node h a b) l = tt
 
 parts_countable : (parts : Tree) → nodes_of parts < 2 ^ 31 → AreCountableParts parts

@@ -39,14 +39,14 @@ module _ (found : Bool) (ds : List Declaration) (known : ℕ → Bool) (own : �
 
 -- a step that closes a query stays in its game, and any other leads to the next one
 
-failed_or_stays : (s : Scene) (o : Option Failure) (next : Tree) (cost : Cost) → Accepted next cost ≡ saying_of (judgement_of_failure s o) → s.game ≡ next
-failed_or_stays s None next cost e = cc
-failed_or_stays s (Some f) next cost e = absurd (cc)
+failed_or_stays : (s : Scene) (certificate : Tree) (o : Option Failure) (next : Tree) (cost : Cost) → Accepted next cost ≡ saying_of (judgement_of_failure s certificate o) → s.game ≡ next
+failed_or_stays s certificate None next cost e = cc
+failed_or_stays s certificate (Some f) next cost e = absurd (cc)
 
 stays_by : (s : Scene) (ks : List ℕ) (n : ℕ) (step next : Tree) (cost : Cost) (o : Option StepItems) → items_of_step step ≡ o → MaySay s ks n step o (Accepted next cost) → game_after (game_behind (option_and_then closing_of_items o) next) s.game ≡ next
 stays_by s ks n step next cost (Some (items.Success k by)) q w =
     let c : Closing = record { query = k; certificate = by } in
-    failed_or_stays s (closing_failure s ks c) next cost (w ∙ ap (λ (i : Option StepItems). saying_of (judgement_by_closing s ks step (option_and_then closing_of_items i))) q)
+    failed_or_stays s by (closing_failure s ks c) next cost (w ∙ ap (λ (i : Option StepItems). saying_of (judgement_by_closing s ks step (option_and_then closing_of_items i))) q)
 stays_by s ks n step next cost o q w = refl
 
 -- where a proof leads, what is told of it leads too

@@ -3,6 +3,7 @@ pub mod Countable
 mod Nodes
 mod Listed
 mod Planned
+mod Closed
 mod Settled
 pub mod Answers
 pub mod Fits

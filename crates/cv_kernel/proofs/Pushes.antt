@@ -55,7 +55,7 @@ accepted_small s (Some r) n c e = small_stand s (r.step.row s) (r.step.stands s)
 
 -- sums have room for a cost more
 
-counted_both : (c : SumCost) → coefficients (terms_of c true) ≡ 2 * coefficients (terms_of c false)
+pub counted_both : (c : SumCost) → coefficients (terms_of c true) ≡ 2 * coefficients (terms_of c false)
 counted_both bound.Zero = refl
 counted_both (bound.Collisions cs) = counted_twice cs ∙ ap (λ n. 2 * n) (sym (counted_once cs))
 counted_both (bound.Advantage n e) = refl

@@ -60,7 +60,7 @@ module _ (pool : PoolView) (decls : DeclsView) (trees : List KindTree) (old new 
     -- a step that closes a query
 
     abbrev ByClosing : Closing → Type 0
-    ByClosing c = IsCloseAnswer (closing_failure here (numbers_of old.closed) c) c old new r
+    ByClosing c = IsCloseAnswer here (closing_failure here (numbers_of old.closed) c) c old new r
 
     by_closing : (c : Closing) (o : Option StepItems) → Some c ≡ option_and_then closing_of_items o → ByClosing c → IsStepAnswer pool decls trees old new step o r
     by_closing c None e w = absurd (cc)

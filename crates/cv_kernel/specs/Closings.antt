@@ -1,5 +1,5 @@
--- Steps that close a query. A query is closed once, by a certificate that is accepted in the last game, and the game stays. This
--- profile's own.
+-- Steps that close a query. A query is closed once, by a certificate that is accepted in the last game, at what this costs, and the game
+-- stays. This profile's own.
 use Rattle.std.specs.Prelude.{ℕ, Bool, true, false, if◌then◌else◌, List, Option, Some, None, option_and_then}
 use Rattle.cv_syntax_trees.specs.declared.head.Head.TheVariants.{SecretCertificate}
 use Rattle.cv_syntax_trees.specs.Tree.{Tree, Node}
@@ -10,7 +10,7 @@ use Rattle.cv_scene.specs.Sights.{from_one}
 use Rattle.cv_script.specs.Views.{StepItems, items_of_step}
 use Rattle.cv_script.specs.Views as items
 use Rattle.cv_steps.specs.Judgements.{Judgement, Accepted, Refused}
-use Rattle.cv_steps.specs.Steps.{Zero}
+use Rattle.cv_costs.specs.Certificates.{cost_of_certificate}
 use Rattle.cv_bound.specs.closings.Queries.{is_among}
 use Rattle.cv_kernel.specs.Steps.{judgement_at}
 
@@ -43,13 +43,13 @@ closing_failure s closed c =
 
 -- what is said of any step, where these queries are closed
 
-abbrev pub judgement_of_failure : Scene → Option Failure → Judgement
-judgement_of_failure s None = Accepted s.game Zero
-judgement_of_failure s (Some f) = Refused f.condition f.place
+abbrev pub judgement_of_failure : Scene → (certificate : Tree) → Option Failure → Judgement
+judgement_of_failure s certificate None = Accepted s.game (cost_of_certificate s certificate)
+judgement_of_failure s certificate (Some f) = Refused f.condition f.place
 
 abbrev pub judgement_by_closing : Scene → (closed : List ℕ) → (step : Tree) → Option Closing → Judgement
 judgement_by_closing s closed t None = judgement_at s t
-judgement_by_closing s closed t (Some c) = judgement_of_failure s (closing_failure s closed c)
+judgement_by_closing s closed t (Some c) = judgement_of_failure s c.certificate (closing_failure s closed c)
 
 abbrev pub judgement_in : Scene → (closed : List ℕ) → (step : Tree) → Judgement
 judgement_in s closed t = judgement_by_closing s closed t (closing_in t)

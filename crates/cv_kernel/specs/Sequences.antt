@@ -8,7 +8,8 @@ use Rattle.cv_syntax_trees.specs.Tree.{Tree, size}
 use Rattle.cv_syntax.specs.PoolTrees.{tree_at}
 use Rattle.cv_syntax.specs.Declarations.{declarations}
 use Rattle.cv_scope_rules.specs.Phrases.{IsWellFormed}
-use Rattle.cv_bound.specs.declared.cost.Cost.TheVariants as bound
+use Rattle.cv_bound.specs.declared.cost.Cost.{Cost as SumCost}
+use Rattle.cv_costs.specs.Certificates.{cost_of_certificate}
 use Rattle.cv_query_certificates.specs.Failures.{Failure}
 use Rattle.cv_scene_view.specs.Kept.{scene_of}
 use Rattle.cv_rule.specs.Prepared.{IsPrepared}
@@ -121,21 +122,26 @@ abbrev pub IsAdvanced : PoolView → DeclsView → List KindTree → (old new : 
 IsAdvanced pool decls trees old new o r =
     IsPushAnswer pool.limit (length pool.trees) (needed_by (game_in pool.trees old) o) (judgement_by (scene_of pool decls old.game.root) o) trees old new r
 
--- a query is closed up to the sum of the steps before, that of a query of its kind, and the game stays
-pub record IsClosing (c : Closing) (old new : Sequence) : Type 0 where
+-- what a step that closes a query costs, as sums take it
+abbrev pub closing_cost : Scene → Closing → SumCost
+closing_cost s c = cost_of (cost_of_certificate s c.certificate)
+
+-- A query is closed up to the sum of the steps before and the cost of its certificate, in that of a query of its kind. The game stays,
+-- and so does the sum for the steps behind.
+pub record IsClosing (s : Scene) (c : Closing) (old new : Sequence) : Type 0 where
   pub game : new.game ≡ old.game
   pub steps : new.steps ≡ suc old.steps
-  pub cost : new.cost ≡ Some bound.Zero
+  pub cost : new.cost ≡ Some (closing_cost s c)
   pub sum : new.sum ≡ old.sum
   pub context : new.context ≡ None
-  pub closed : new.closed ≡ old.closed ++ record { query = c.query; sum = sum_for (is_of_secrecy c) old.sum } ∷ []
+  pub closed : new.closed ≡ old.closed ++ record { query = c.query; sum = sum_for (is_of_secrecy c) (with_cost old.sum (closing_cost s c)) } ∷ []
 
 -- A step that closes a query is answered by the first condition that fails; memory may run out anywhere.
-abbrev pub IsCloseAnswer : Option Failure → Closing → (old new : Sequence) → Result (Unit {0}) PushError → Type 0
-IsCloseAnswer failure c old new (Ok u) = (failure ≡ None) × IsClosing c old new
-IsCloseAnswer failure c old new (Err (push.Refused f)) = failure ≡ Some (record { condition = f.condition; place = f.place })
-IsCloseAnswer failure c old new (Err (push.Build build.OutOfMemory)) = Unit {0}
-IsCloseAnswer failure c old new (Err e) = ⊥
+abbrev pub IsCloseAnswer : Scene → Option Failure → Closing → (old new : Sequence) → Result (Unit {0}) PushError → Type 0
+IsCloseAnswer s failure c old new (Ok u) = (failure ≡ None) × IsClosing s c old new
+IsCloseAnswer s failure c old new (Err (push.Refused f)) = failure ≡ Some (record { condition = f.condition; place = f.place })
+IsCloseAnswer s failure c old new (Err (push.Build build.OutOfMemory)) = Unit {0}
+IsCloseAnswer s failure c old new (Err e) = ⊥
 
 -- a cryptographic step was accepted: the sequence has its next game, the advantage of its context as cost, and the context's shape
 pub record IsReduced (limit live : ℕ) (s : Scene) (e x : ℕ) (trees : List KindTree) (old new : Sequence) : Type 0 where
@@ -161,7 +167,7 @@ IsReduceAnswer limit live s e x trees old new (Err (push.Build build.OutOfMemory
 -- each kind of step is answered so
 abbrev pub IsStepAnswer : PoolView → DeclsView → List KindTree → (old new : Sequence) → (step : Tree) → Option StepItems → Result (Unit {0}) PushError → Type 0
 IsStepAnswer pool decls trees old new step (Some (items.Success k certificate)) r =
-    IsCloseAnswer (closing_failure (scene_of pool decls old.game.root) (numbers_of old.closed) (record { query = k; certificate = certificate }))
+    IsCloseAnswer (scene_of pool decls old.game.root) (closing_failure (scene_of pool decls old.game.root) (numbers_of old.closed) (record { query = k; certificate = certificate }))
     (record { query = k; certificate = certificate }) old new r
 IsStepAnswer pool decls trees old new step (Some (items.Crypto e x)) r =
     IsReduceAnswer pool.limit (length pool.trees) (scene_of pool decls old.game.root) e x trees old new r

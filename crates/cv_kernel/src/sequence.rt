@@ -24,12 +24,12 @@ use cv_bound::Cost;
 use cv_bound::closings::ClosedQueries;
 use cv_bound::costs::{Sums, advantage};
 use cv_context::products::Shape;
+use cv_costs::cost_of_certificate;
 use cv_directory::Directory;
 use cv_kernel_crypto::games::{Next, settle};
 use cv_kernel_crypto::{Basis, apply, plan};
 use cv_query::check;
 use cv_query::kinds::query_numbered;
-use cv_query_entries::View;
 use cv_script::{Step, StepView, view};
 use cv_syntax::{Game, Work};
 use cv_typing::Arrays;
@@ -174,39 +174,45 @@ impl Sequence {
         Ok(())
     }
 
-    /// Closes a query by a certificate in the last game, up to the sum so far. After a refusal the sequence is as it was.
-    fn close(&mut self, alloc: Global, work: &Work, closing: Closing) -> Result<(), PushError>
-        requires stands { Stands work.now.pool.trees work.now.decls self.old }
-        requires declared { All (IsLive (length work.now.pool.trees)) work.now.decls.list }
-        requires live { ChildBelow (length work.now.pool.trees) closing.certificate }
-        requires short { nodes_of (tree_at work.now.pool.trees closing.certificate) < 2 ^ 31 }
+    /// Closes a query by a certificate in the last game, up to the sum so far and what the certificate costs. After a refusal the
+    /// sequence is as it was; the nodes that the test of a certificate puts are taken back.
+    fn close(&mut self, alloc: Global, work: &mut Work, closing: Closing) -> Result<(), PushError>
+        requires stands { Stands work.old.pool.trees work.old.decls self.old }
+        requires declared { All (IsLive (length work.old.pool.trees)) work.old.decls.list }
+        requires live { ChildBelow (length work.old.pool.trees) closing.certificate }
+        requires short { nodes_of (tree_at work.old.pool.trees closing.certificate) < 2 ^ 31 }
+        requires limit { work.old.pool.limit < 4294967295 }
         requires steps { self.old.steps < 2000 }
-        ensures answer { IsCloseAnswer (closing_failure
-            (scene_of work.now.pool work.now.decls self.old.game.root) (numbers_of self.old.closed)
-            (closing_tree work.now.pool.trees closing))
-            (closing_tree work.now.pool.trees closing) self.old self.new result }
-        ensures stands { Stands work.now.pool.trees work.now.decls self.new }
+        ensures answer { IsCloseAnswer
+            (scene_of work.old.pool work.old.decls self.old.game.root) (closing_failure
+            (scene_of work.old.pool work.old.decls self.old.game.root) (numbers_of self.old.closed)
+            (closing_tree work.old.pool.trees closing))
+            (closing_tree work.old.pool.trees closing) self.old self.new result }
+        ensures stands { Stands work.new.pool.trees work.new.decls self.new }
         ensures same { OnErr result (Same self.old self.new) }
+        ensures kept { work.new.pool.trees ≡ work.old.pool.trees }
+        ensures grows { Grows work.old.pool work.new.pool }
+        ensures names { work.new.names ≡ work.old.names }
+        ensures decls { work.new.decls ≡ work.old.decls }
     {
         if self.closed.is_closed(closing.query) {
             return Err(refused(1));
         }
         self.prepare(alloc, work)?;
-        let view = View {
-            work,
-            game: self.game.root,
-            arrays: self.arrays.as_ref().unwrap(),
-        };
+        let arrays = self.arrays.as_ref().unwrap();
+        let root = self.game.root;
         let query = query_numbered(&work.decls, closing.query);
-        if let Some(failure) = check(alloc, &view, query, closing.certificate)? {
+        if let Some(failure) = check(alloc, work, root, arrays, query, closing.certificate)? {
             return Err(PushError::Refused(Refusal {
                 condition: failure.condition,
                 place: failure.place,
             }));
         }
+        let cost = cost_of_certificate(alloc, work, root, arrays, closing.certificate)?;
+        let sums = self.sum.with_cost(&cost)?;
         let secrecy = is_secret(&work.pool, closing.certificate);
-        self.closed.note(closing.query, self.sum.of(secrecy))?;
-        self.cost = Some(Cost::Zero);
+        self.closed.note(closing.query, sums.of(secrecy))?;
+        self.cost = Some(cost);
         self.context = None;
         self.steps += 1;
         Ok(())

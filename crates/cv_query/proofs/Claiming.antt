@@ -6,7 +6,7 @@ use Rattle.std.specs.List.{list_all}
 use Rattle.std.proofs.Math.Path.{fun_ext}
 use Rattle.cv_lists.specs.Options.{first_of}
 use Rattle.cv_syntax_trees.specs.declared.head.Head.{Head}
-use Rattle.cv_syntax_trees.specs.declared.head.Head.TheVariants.{AboveRoute, AtEntry, CellRoute, Cons, Defined, Eq, HoldsRoute, Leaf, NeverEntry, WithEntry}
+use Rattle.cv_syntax_trees.specs.declared.head.Head.TheVariants.{AboveRoute, AtEntry, CellRoute, Cons, Defined, DistinctPart, Eq, HoldsRoute, Leaf, NeverEntry, Pair, WithEntry}
 use Rattle.cv_syntax_trees.specs.Tree.{Tree, Empty, Node, first}
 use Rattle.cv_syntax.proofs.Trees.{tree_of_NoTree}
 use Rattle.cv_meaning.specs.Correspondences.{Atom, Correspondence, RightEvent, RightTerm, atom_of, atoms_of}
@@ -24,10 +24,11 @@ use Rattle.cv_query_certificates.specs.Claims.{Claim, at_place, behind_cell, cla
 use Rattle.cv_query_certificates.specs.EventNodes.{are_for, arguments_at}
 use Rattle.cv_query_certificates.specs.Failures.{has_end, is_right}
 use Rattle.cv_query_certificates.specs.Forms.{has_form, is_number}
+use Rattle.cv_query_certificates.specs.PairParts.{behind_entries, pairs_in}
 use Rattle.cv_query_entries.specs.terms.Given.{given_by, names_in, put, terms_given}
 use Rattle.cv_query_entries.specs.ends.Said.{said_equal}
 use Rattle.cv_query_entries.specs.Nodes.{rows_above}
-use Rattle.cv_query_entries.specs.Said.{Saying, Never, Nothing, With, Way, Above, ByCell, Holds, NoWay, saying_of, way_of}
+use Rattle.cv_query_parts.specs.Said.{Saying, Never, Nothing, With, Way, Above, ByCell, Holds, NoWay, saying_of, way_of}
 use Rattle.cv_pool.specs.KindTree.{KindTree}
 use Rattle.cv_syntax.proofs.Trees.{tree_at_None}
 use Rattle.cv_syntax.specs.PoolTrees.{tree_at}
@@ -37,7 +38,7 @@ use Rattle.cv_scene.specs.lines.Lines.{count}
 use Rattle.cv_query_entries.specs.declared.terms.given.Given.{Given}
 use Rattle.cv_query_entries.specs.declared.terms.given.Part.{Part}
 use Rattle.cv_query_entries.specs.terms.Parts.{part_tree, put_if, terms_of}
-use Rattle.cv_query.specs.Countable.{AreCountable, AreCountableParts, IsCountable, IsCountableSaying, derivation_by}
+use Rattle.cv_query_parts.specs.Countable.{AreCountable, AreCountableParts, IsCountable, IsCountablePart, IsCountableSaying, derivation_by}
 use Rattle.cv_query.specs.Claimed.{derived_by, ends_by, said_by}
 
 pub ruleset claiming = (tree_of_NoTree)
@@ -217,12 +218,31 @@ module _ (routes : Tree) (h : Head) (r rest : Tree) (e : routes ≡ Node h r res
   pub route_countable : (c : Atom) (w : Way) (by : Tree) → w ≡ way_of r → by ≡ derived_by c w → IsCountable by
   route_countable c w by f g = subst IsCountable (sym g) (derived_countable c w (subst (λ v. IsCountable (derivation_by v)) (sym f) (subst AreCountable e n).0))
 
+-- a pair says nothing
+saying_countable : (part : Tree) → IsCountablePart part → IsCountableSaying (saying_of part)
+saying_countable (Node Pair p (Node h q (Node g c by))) n = tt
+saying_countable part n = n
+
 module _ (parts : Tree) (h : Head) (part more : Tree) (e : parts ≡ Node h part more) (n : AreCountableParts parts) where
   pub part_countable : IsCountableSaying (saying_of part)
-  part_countable = (subst AreCountableParts e n).0
+  part_countable = saying_countable part (subst AreCountableParts e n).0
 
   pub more_countable : AreCountableParts more
   more_countable = (subst AreCountableParts e n).1
+
+behind_countable : (ps : List ℕ) (parts : Tree) → AreCountableParts parts → AreCountableParts (behind_entries ps parts)
+behind_countable [] parts n = n
+behind_countable (p ∷ ps) Empty n = n
+behind_countable (p ∷ ps) (Node h part more) n = behind_countable ps more n.1
+
+pairs_countable : (parts : Tree) → AreCountableParts parts → AreCountableParts (pairs_in parts)
+pairs_countable (Node h (Node DistinctPart names e) more) n = n.1
+pairs_countable parts n = n
+
+pub left_countable : (ps : List ℕ) (parts behind pairs : Tree) → behind ≡ behind_entries ps parts → pairs ≡ pairs_in behind
+    → AreCountableParts parts → AreCountableParts pairs
+left_countable ps parts behind pairs e f n =
+    subst AreCountableParts (sym (f ∙ ap pairs_in e)) (pairs_countable (behind_entries ps parts) (behind_countable ps parts n))
 
 -- the claims of what is said
 

@@ -55,15 +55,15 @@ module _ (s : Scene) (q : Correspondence) (ps : List ℕ) (k : ℕ) where
   pub all_passed : (test : Scene → (place : ℕ) → Claim → Bool) (t : Tree) → length ps ≤ k → None ≡ first_failing test s q (drop k ps) t
   all_passed test t l = sym (ap (λ us. first_failing test s q us t) (drop_all k ps l))
 
--- the first of four conditions
+-- the first of three conditions, or what fails behind them
 
 abbrev failed : ℕ → ℕ → Option Failure
 failed n p = Some (record { condition = n; place = p })
 
-abbrev four : (a b c d : Option ℕ) → Option Failure
-four a b c d = first_of (failure 2 a) (first_of (failure 3 b) (first_of (failure 4 c) (failure 5 d)))
+abbrev four : (a b c : Option ℕ) → (d : Option Failure) → Option Failure
+four a b c d = first_of (failure 2 a) (first_of (failure 3 b) (first_of (failure 4 c) d))
 
-module _ (a b c d : Option ℕ) where
+module _ (a b c : Option ℕ) (d : Option Failure) where
   pub form_fails : (p : ℕ) → Some p ≡ a → failed 2 p ≡ four a b c d
   form_fails p e = ap (λ o. four o b c d) e
 
@@ -75,15 +75,8 @@ module _ (a b c d : Option ℕ) where
       pub end_fails : (p : ℕ) → Some p ≡ c → failed 4 p ≡ four a b c d
       end_fails p g = ap (λ o. four None None o d) g ∙ ap₂ (λ o u. four o u c d) e f
 
-      module _ (g : None ≡ c) where
-        three : failure 5 d ≡ four a b c d
-        three = ap (λ o. four None None o d) g ∙ ap₂ (λ o u. four o u c d) e f
-
-        pub pair_fails : (p : ℕ) → Some p ≡ d → failed 5 p ≡ four a b c d
-        pair_fails p i = ap (failure 5) i ∙ three
-
-        pub nothing_fails : None ≡ d → ◌≡◌ {A = Option Failure} None (four a b c d)
-        nothing_fails i = ap (failure 5) i ∙ three
+      pub rest_fails : None ≡ c → (x : Option Failure) → x ≡ d → x ≡ four a b c d
+      rest_fails g x i = i ∙ (ap (λ o. four None None o d) g ∙ ap₂ (λ o u. four o u c d) e f)
 
 -- a certificate that is none of a correspondence
 
@@ -118,4 +111,4 @@ module _ (s : Scene) (h : Head) (bs sides c : Tree) where
         same : q ≡ correspondence_of query
         same = λ j. record { inj = i j; event = k j; variables = l j; others = m j; alternatives = (n ∙ sym (list_only (second sides) (sym e ∙ f))) j }
 
-pub ruleset failing = (tree_of_NoTree, form_fails, line_fails, end_fails, pair_fails, nothing_fails, no_certificate, other_certificate, no_list, of_list)
+pub ruleset failing = (tree_of_NoTree, form_fails, line_fails, end_fails, rest_fails, no_certificate, other_certificate, no_list, of_list)

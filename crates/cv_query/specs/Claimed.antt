@@ -10,7 +10,7 @@ use Rattle.cv_query_certificates.specs.Claims.{behind_cell}
 use Rattle.cv_query_certificates.specs.EventNodes.{arguments_at, only_site}
 use Rattle.cv_query_certificates.specs.Failures as failures
 use Rattle.cv_query_entries.specs.ends.Said.{said_equal}
-use Rattle.cv_query_entries.specs.Said.{Way, Above, ByCell, Holds}
+use Rattle.cv_query_parts.specs.Said.{Way, Above, ByCell, Holds}
 use Rattle.cv_query.specs.declared.testing.Failure.{Failure}
 
 -- what a route's derivation is to say last

@@ -1,4 +1,5 @@
-pub mod Countable
 pub mod Claimed
+pub mod Left
 pub mod offences
 pub mod kinds
+pub mod pairs

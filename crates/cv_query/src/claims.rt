@@ -3,11 +3,11 @@ ghost use Rattle.cv_pool.specs.KindTree.{KindTree};
 ghost use Rattle.cv_pool.specs.Nodes.{ChildBelow};
 ghost use Rattle.cv_syntax.specs.PoolTrees.{tree_at};
 ghost use Rattle.cv_query_certificates.specs.EventNodes as certificates;
-ghost use Rattle.cv_query_entries.specs.Said.{IsRouteBelow, atom_seen, way_seen};
-ghost use Rattle.cv_query_entries.specs.Views.{IsReady, game_of, trees_of};
+ghost use Rattle.cv_query_parts.specs.Said.{IsRouteBelow, atom_seen, way_seen};
+ghost use Rattle.cv_query_parts.specs.Views.{IsReady, game_of, trees_of};
 ghost use Rattle.cv_query.specs.Claimed.{derived_by};
 
-use cv_query_entries::{Atom, Route, View};
+use cv_query_parts::{Atom, Route, View};
 use cv_scene_view::part_at;
 use cv_syntax::NodeId;
 use cv_syntax::children::first_of;

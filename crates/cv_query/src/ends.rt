@@ -13,16 +13,17 @@ ghost use Rattle.cv_query_certificates.specs.Forms.{has_form};
 ghost use Rattle.cv_query_entries.specs.ends.Said.{said_equal};
 ghost use Rattle.cv_query_entries.specs.terms.Given.{put};
 ghost use Rattle.cv_query_entries.specs.terms.Parts.{IsGivenBelow, terms_of};
-ghost use Rattle.cv_query_entries.specs.Said.{IsAtomBelow, IsRouteBelow, atom_seen, way_seen};
-ghost use Rattle.cv_query_entries.specs.Views.{IsAskedBelow, IsReady, asked_of, game_of, scene_of, trees_of};
+ghost use Rattle.cv_query_parts.specs.Said.{IsAtomBelow, IsRouteBelow, atom_seen, way_seen};
+ghost use Rattle.cv_query_parts.specs.Views.{IsAskedBelow, IsReady, asked_of, game_of, scene_of, trees_of};
 ghost use Rattle.cv_query.specs.Claimed.{ends_by};
 
 use crate::claims::arguments_at;
 use cv_query_entries::ends::{
     ends_with_cell, ends_with_equations, ends_with_falsity, ends_with_term,
 };
+use cv_query_entries::rows_above;
 use cv_query_entries::terms::{Given, Part};
-use cv_query_entries::{Asked, Atom, Entry, Route, View, atom_of, entry_of, route_of, rows_above};
+use cv_query_parts::{Asked, Atom, Entry, Route, View, atom_of, entry_of, route_of};
 use cv_syntax::children::first_of;
 use cv_syntax::{NodeId, read_node};
 use std::alloc::{AllocError, Global};

@@ -5,6 +5,7 @@ mod claims;
 mod ends;
 pub mod kinds;
 pub mod offences;
+mod pairs;
 mod right;
 mod secrets;
 mod testing;

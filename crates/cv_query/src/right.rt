@@ -11,14 +11,14 @@ ghost use Rattle.cv_scene.specs.Terms.{above_at, replications_at as replications
 ghost use Rattle.cv_query_certificates.specs.Claims.{claims_of, entry_claims};
 ghost use Rattle.cv_query_certificates.specs.Failures as failures;
 ghost use Rattle.cv_query_certificates.specs.Failures.{first_failing};
-ghost use Rattle.cv_query_entries.specs.Views.{IsAskedBelow, IsReady, asked_of, scene_of, trees_of};
-ghost use Rattle.cv_query.specs.Countable.{AreCountable, AreCountableParts, IsCountable, IsCountableSaying};
-ghost use Rattle.cv_query_entries.specs.Said.{saying_of};
+ghost use Rattle.cv_query_parts.specs.Views.{IsAskedBelow, IsReady, asked_of, scene_of, trees_of};
+ghost use Rattle.cv_query_parts.specs.Countable.{AreCountable, AreCountableParts, IsCountable, IsCountableSaying};
+ghost use Rattle.cv_query_parts.specs.Said.{saying_of};
 
 use crate::claims::derivation_of;
 use cv_derive::{DeriveFault, check};
 use cv_directory_sorts::Sort;
-use cv_query_entries::{Asked, Entry, View, atom_of, entry_of, route_of};
+use cv_query_parts::{Asked, Entry, View, atom_of, entry_of, route_of};
 use cv_scene_view::{indices_at, replications_at};
 use cv_syntax::{Game, NodeId, read_node};
 use std::alloc::{AllocError, Global};

@@ -3,14 +3,14 @@ ghost use Rattle.cv_pool.specs.Nodes.{ChildBelow};
 ghost use Rattle.cv_syntax.specs.PoolTrees.{tree_at};
 ghost use Rattle.cv_query_certificates.specs.Failures.{forms_failure, pairs_failure, place_or_start, secret_failure};
 ghost use Rattle.cv_query_certificates.specs.Secrets.{first_definition as first_definition_in, first_offence_of_choices as offence_of_choices, first_offence_of_copies as offence_of_copies, starts_by_let as starts_by_let_in};
-ghost use Rattle.cv_query_entries.specs.Views.{IsReady, game_of, scene_of, trees_of};
+ghost use Rattle.cv_query_parts.specs.Views.{IsReady, game_of, scene_of, trees_of};
 ghost use Rattle.cv_query.specs.Claimed.{failure_of};
 
 use crate::offences::{
     first_definition, first_offence_of_choices, first_offence_of_copies, starts_by_let,
 };
 use crate::testing::Failure;
-use cv_query_entries::{View, first_surplus};
+use cv_query_parts::{View, first_surplus};
 use cv_syntax::{Head, NodeId, read_node};
 use std::alloc::{AllocError, Global};
 
@@ -80,7 +80,7 @@ fn pairs_checked(
     ensures { IfOk result (λ f. option_map failure_of f
         ≡ pairs_failure once (scene_of view.now) x (tree_at (trees_of view.now) pairs)) }
 {
-    match first_surplus(&view.work.pool, &[], pairs) {
+    match first_surplus(&view.work.pool, pairs) {
         Some(place) => Ok(Some(failed(5, place))),
         None => forms_checked(alloc, view, once, x),
     }

@@ -10,13 +10,17 @@ use Rattle.cv_meaning.specs.Correspondences.{Correspondence, correspondence_of}
 use Rattle.cv_scene.specs.Derivations.{first_bad_line, unless}
 use Rattle.cv_scene.specs.Scenes.{Scene}
 use Rattle.cv_scene.specs.Sights.{sight_at}
-use Rattle.cv_query_certificates.specs.Accepted.{AreEntries, IsAccepted, IsEventsProof, IsProofOf, IsSecretProof, Proves, is_built}
+use Rattle.cv_query_certificates.specs.Accepted.{AreEntries, AreParts, IsAccepted, IsRest, IsEventsProof, IsProofOf, IsSecretProof, Proves, is_built}
 use Rattle.cv_query_certificates.specs.Alternatives.{has_list}
 use Rattle.cv_query_certificates.specs.Claims.{Claim, entry_claims}
-use Rattle.cv_query_certificates.specs.Failures.{certificate_failure, certificate_refused, correspondence_failure, failure, first_failing, first_failure, first_surplus, first_unformed, forms_failure, has_end, is_right, parts_failure, query_failure, secret_failure}
+use Rattle.cv_query_certificates.specs.Failures.{certificate_failure, certificate_refused, correspondence_failure, failure, first_failing, first_failure, first_surplus, first_unformed, forms_failure, has_end, is_right, parts_failure, query_failure, rest_failure, secret_failure, surplus_entry}
 use Rattle.cv_query_certificates.specs.Forms.{has_form, left_places}
+use Rattle.cv_query_certificates.specs.Marks.{raise_of}
+use Rattle.cv_query_certificates.specs.PairParts.{behind_entries, distinct_in, first_unfit_name, first_wrong_pair, pairs_in}
+use Rattle.cv_query_certificates.specs.Pairs.{needed_pairs}
 use Rattle.cv_query_certificates.specs.Secrets.{AreUnreadChoices, AreUnreadCopies, IsSecret, earlier, first_offence_of_choices, first_offence_of_copies}
 use Rattle.cv_lists.proofs.Options.{some_none, none_from_not_some, first_of_none}
+use Rattle.cv_query_certificates.proofs.Pairing.{names_pass, names_stand, no_entry, pairs_pass, pairs_stand}
 
 both_none : {A : Type 0} (x y : Option A) → x ≡ None → y ≡ None → first_of x y ≡ None
 both_none x y e f = ap (λ z. first_of z y) e ∙ f
@@ -45,11 +49,10 @@ module _ (s : Scene) (q : Correspondence) where
   all_end p [] a = refl
   all_end p (c ∷ cs) a = and_from (has_end s p c) _ a.0.end (all_end p cs a.1)
 
-  entries_stand : (ps : List ℕ) (parts : Tree) → first_unformed s q ps parts ≡ None → first_failing is_right s q ps parts ≡ None → first_failing has_end s q ps parts ≡ None → first_surplus ps parts ≡ None → AreEntries s q ps parts
-  entries_stand [] Empty u r e n = tt
-  entries_stand [] (Node h part more) u r e n = absurd (some_none _ n)
-  entries_stand (p ∷ ps) Empty u r e n = absurd (some_none p u)
-  entries_stand (p ∷ ps) (Node h entry more) u r e n =
+  entries_stand : (ps : List ℕ) (parts : Tree) → first_unformed s q ps parts ≡ None → first_failing is_right s q ps parts ≡ None → first_failing has_end s q ps parts ≡ None → AreEntries s q ps parts
+  entries_stand [] parts u r e = tt
+  entries_stand (p ∷ ps) Empty u r e = absurd (some_none p u)
+  entries_stand (p ∷ ps) (Node h entry more) u r e =
       let a = first_of_none (unless (has_form s q p entry) p) _ u in
       let b = first_of_none (unless (list_all (is_right s p) (entry_claims s q p entry)) p) _ r in
       let c = first_of_none (unless (list_all (has_end s p) (entry_claims s q p entry)) p) _ e in (
@@ -57,51 +60,62 @@ module _ (s : Scene) (q : Correspondence) where
           form = unless_true _ p a.0;
           claims = proved p (entry_claims s q p entry) (unless_true _ p b.0) (unless_true _ p c.0);
         },
-        entries_stand ps more a.1 b.1 c.1 n,
+        entries_stand ps more a.1 b.1 c.1,
       )
 
-  nothing_unformed : (ps : List ℕ) (parts : Tree) → AreEntries s q ps parts → first_unformed s q ps parts ≡ None
-  nothing_unformed [] Empty a = refl
-  nothing_unformed [] (Node h part more) a = absurd a
-  nothing_unformed (p ∷ ps) Empty a = absurd a
-  nothing_unformed (p ∷ ps) (Node h entry more) a =
-      both_none (unless (has_form s q p entry) p) _ (ap (λ b. unless b p) a.0.form) (nothing_unformed ps more a.1)
+  nothing_unformed : (ps : List ℕ) (parts : Tree) → AreEntries s q ps parts → surplus_entry (behind_entries ps parts) ≡ None → first_unformed s q ps parts ≡ None
+  nothing_unformed [] parts a n = n
+  nothing_unformed (p ∷ ps) Empty a n = absurd a
+  nothing_unformed (p ∷ ps) (Node h entry more) a n =
+      both_none (unless (has_form s q p entry) p) _ (ap (λ b. unless b p) a.0.form) (nothing_unformed ps more a.1 n)
 
   nothing_bad : (ps : List ℕ) (parts : Tree) → AreEntries s q ps parts → first_failing is_right s q ps parts ≡ None
-  nothing_bad [] Empty a = refl
-  nothing_bad [] (Node h part more) a = absurd a
+  nothing_bad [] parts a = refl
   nothing_bad (p ∷ ps) Empty a = absurd a
   nothing_bad (p ∷ ps) (Node h entry more) a =
       both_none (unless (list_all (is_right s p) (entry_claims s q p entry)) p) _ (ap (λ b. unless b p) (all_right p (entry_claims s q p entry) a.0.claims))
       (nothing_bad ps more a.1)
 
   nothing_else_ends : (ps : List ℕ) (parts : Tree) → AreEntries s q ps parts → first_failing has_end s q ps parts ≡ None
-  nothing_else_ends [] Empty a = refl
-  nothing_else_ends [] (Node h part more) a = absurd a
+  nothing_else_ends [] parts a = refl
   nothing_else_ends (p ∷ ps) Empty a = absurd a
   nothing_else_ends (p ∷ ps) (Node h entry more) a =
       both_none (unless (list_all (has_end s p) (entry_claims s q p entry)) p) _ (ap (λ b. unless b p) (all_end p (entry_claims s q p entry) a.0.claims))
       (nothing_else_ends ps more a.1)
 
-  nothing_surplus : (ps : List ℕ) (parts : Tree) → AreEntries s q ps parts → first_surplus ps parts ≡ None
-  nothing_surplus [] Empty a = refl
-  nothing_surplus [] (Node h part more) a = absurd a
-  nothing_surplus (p ∷ ps) Empty a = absurd a
-  nothing_surplus (p ∷ ps) (Node h entry more) a = nothing_surplus ps more a.1
+  rest_stands : (k : ℕ) (parts rest : Tree) → rest_failure s q k parts rest ≡ None → IsRest s q k parts rest
+  rest_stands k parts rest e =
+      let a = first_of_none (failure 5 (first_wrong_pair s k (distinct_in rest) (needed_pairs s k q parts) (pairs_in rest))) _ e in
+      record {
+        pairs = pairs_stand s k (distinct_in rest) (needed_pairs s k q parts) (pairs_in rest) (failure_none 5 _ a.0);
+        distinct = names_stand s [] (distinct_in rest) (failure_none 6 _ a.1);
+      }
 
-  parts_stand : (ps : List ℕ) (parts : Tree) → parts_failure s q ps parts ≡ None → AreEntries s q ps parts
+  rest_passes : (k : ℕ) (parts rest : Tree) → IsRest s q k parts rest → rest_failure s q k parts rest ≡ None
+  rest_passes k parts rest a =
+      both_none (failure 5 (first_wrong_pair s k (distinct_in rest) (needed_pairs s k q parts) (pairs_in rest))) _
+      (ap (failure 5) (pairs_pass s k (distinct_in rest) (needed_pairs s k q parts) (pairs_in rest) a.pairs))
+      (ap (failure 6) (names_pass s [] (distinct_in rest) a.distinct))
+
+  parts_stand : (ps : List ℕ) (parts : Tree) → parts_failure s q ps parts ≡ None → AreParts s q ps parts
   parts_stand ps parts e =
       let a = first_of_none (failure 2 (first_unformed s q ps parts)) _ e in
       let b = first_of_none (failure 3 (first_failing is_right s q ps parts)) _ a.1 in
       let c = first_of_none (failure 4 (first_failing has_end s q ps parts)) _ b.1 in
-      entries_stand ps parts (failure_none 2 _ a.0) (failure_none 3 _ b.0) (failure_none 4 _ c.0) (failure_none 5 _ c.1)
+      record {
+        entries = entries_stand ps parts (failure_none 2 _ a.0) (failure_none 3 _ b.0) (failure_none 4 _ c.0);
+        rest = rest_stands (raise_of s parts) parts (behind_entries ps parts) c.1;
+      }
 
-  nothing_fails : (ps : List ℕ) (parts : Tree) → AreEntries s q ps parts → parts_failure s q ps parts ≡ None
+  nothing_fails : (ps : List ℕ) (parts : Tree) → AreParts s q ps parts → parts_failure s q ps parts ≡ None
   nothing_fails ps parts a =
-      both_none (failure 2 (first_unformed s q ps parts)) _ (ap (failure 2) (nothing_unformed ps parts a))
-      (both_none (failure 3 (first_failing is_right s q ps parts)) _ (ap (failure 3) (nothing_bad ps parts a))
-      (both_none (failure 4 (first_failing has_end s q ps parts)) _ (ap (failure 4) (nothing_else_ends ps parts a))
-      (ap (failure 5) (nothing_surplus ps parts a))))
+      let k : ℕ = raise_of s parts in
+      let rest = behind_entries ps parts in
+      both_none (failure 2 (first_unformed s q ps parts)) _
+      (ap (failure 2) (nothing_unformed ps parts a.entries (no_entry s k (distinct_in rest) (needed_pairs s k q parts) rest a.rest.pairs)))
+      (both_none (failure 3 (first_failing is_right s q ps parts)) _ (ap (failure 3) (nothing_bad ps parts a.entries))
+      (both_none (failure 4 (first_failing has_end s q ps parts)) _ (ap (failure 4) (nothing_else_ends ps parts a.entries))
+      (rest_passes k parts rest a.rest)))
 
   certificate_stands : (c : Tree) → certificate_failure s q c ≡ None → IsEventsProof s q c
   certificate_stands (Node EventsCertificate parts e) n = parts_stand (left_places s q) parts n
@@ -169,7 +183,7 @@ module _ (s : Scene) where
   of_list query c l = sym (ap (λ b. if b then certificate_failure s (correspondence_of query) c else certificate_refused s (correspondence_of query)) l)
 
   built_list : (bs sides c : Tree) → is_built (Node Query bs sides) c ≡ true → has_list (Node Query bs sides) ≡ true
-  built_list bs sides c b = (and_parts (has_list (Node Query bs sides)) _ (and_parts (not (correspondence_of (Node Query bs sides)).inj) _ b).1).0
+  built_list bs sides c b = b
 
   query_stands : (query c : Tree) → is_built query c ≡ true → query_failure s query c ≡ None → IsProofOf s query c
   query_stands (Node (Secret x) a d) c b n = secret_stands s x false c n

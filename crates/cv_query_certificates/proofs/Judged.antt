@@ -13,6 +13,7 @@ use Rattle.cv_scope_rules.specs.Made.{is_bound}
 use Rattle.cv_scope_rules.specs.Phrases.{is_phrase}
 use Rattle.cv_scope_rules.specs.Behind.{sites_in}
 use Rattle.cv_scope_rules.specs.Above.{standing_at}
+use Rattle.cv_scene.specs.Large.{first_other_site}
 use Rattle.cv_scene.specs.Scenes.{has_some_new}
 use Rattle.cv_scene.specs.Terms.{is_there}
 use Rattle.cv_scene.specs.Derivations.{first_bad}
@@ -21,20 +22,21 @@ use Rattle.cv_scene.specs.lines.Lines.{lines_of, statements}
 use Rattle.cv_scene.specs.lines.Lines as lines
 use Rattle.cv_query_certificates.specs.EventNodes.{event_places}
 use Rattle.cv_query_certificates.specs.Failures.{first_failure}
+use Rattle.cv_query_certificates.specs.Marks.{names_end, plain}
 use Rattle.cv_query_certificates.specs.Secrets.{AreUnreadCopies, first_definition_but, first_other_read, sources}
 use Rattle.cv_query_certificates.specs.WorkedSecrets.{Fails, copied, secret_cases}
 use Rattle.cv_query_certificates.specs.Worked.{cell_cases, direct, direct_cases, one_site, two_sites, two_sites_cases}
 
 pub direct_judged : AllByRecursion (λ c. first_failure direct c.0 c.1 ≡ c.2) direct_cases
-unfolding first_fault size subtree same_tree first_index first_site bound_sort binders_differ counting.count context_at is_bound is_phrase is_there standing_at names_in sites_in with_given lines_of lines.count statements first_bad event_places reads_only
-direct_judged = (refl, (refl, (refl, (refl, (refl, (refl, (refl, (refl, (refl, (refl, (refl, (refl, (refl, (refl, tt))))))))))))))
+unfolding first_fault size subtree same_tree first_index first_site bound_sort binders_differ counting.count context_at is_bound is_phrase is_there standing_at names_in sites_in with_given lines_of lines.count statements first_bad event_places reads_only first_definition_but first_other_site names_end plain
+direct_judged = (refl, (refl, (refl, (refl, (refl, (refl, (refl, (refl, (refl, (refl, (refl, (refl, (refl, (refl, (refl, (refl, (refl, (refl, (refl, (refl, (refl, tt)))))))))))))))))))))
 
 pub cells_judged : AllByRecursion (λ c. first_failure one_site c.0 c.1 ≡ c.2) cell_cases
-unfolding first_fault size subtree same_tree first_index first_site bound_sort binders_differ counting.count context_at is_bound is_phrase is_there standing_at names_in sites_in with_given lines_of lines.count statements first_bad event_places reads_only
+unfolding first_fault size subtree same_tree first_index first_site bound_sort binders_differ counting.count context_at is_bound is_phrase is_there standing_at names_in sites_in with_given lines_of lines.count statements first_bad event_places reads_only first_definition_but first_other_site names_end plain
 cells_judged = (refl, (refl, (refl, tt)))
 
 pub two_sites_judged : AllByRecursion (λ c. first_failure two_sites c.0 c.1 ≡ c.2) two_sites_cases
-unfolding first_fault size subtree same_tree first_index first_site bound_sort binders_differ counting.count context_at is_bound is_phrase is_there standing_at names_in sites_in with_given lines_of lines.count statements first_bad event_places reads_only
+unfolding first_fault size subtree same_tree first_index first_site bound_sort binders_differ counting.count context_at is_bound is_phrase is_there standing_at names_in sites_in with_given lines_of lines.count statements first_bad event_places reads_only first_definition_but first_other_site names_end plain
 two_sites_judged = (refl, tt)
 
 pub secrets_judged : AllByRecursion Fails secret_cases

@@ -1,3 +1,4 @@
 pub mod Alternatives
+mod Pairing
 mod Deciding
 mod Judged

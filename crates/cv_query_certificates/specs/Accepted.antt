@@ -1,10 +1,11 @@
--- Accepted certificates. Of a correspondence without `inj`: each left event has an entry, in the order of places. Either its node is
+-- Accepted certificates. Of a correspondence: each left event has an entry, in the order of places. Either its node is
 -- never reached, or each right event was executed before, since its node stands above, or above the only definition of a variable
--- that is assigned. Of secrecy: the game itself has the form, and no pair is given. Blanchet, CSF 2007, for correspondences, and
+-- that is assigned. With `inj`, two left events whose routes may end at one right event are told apart, or are one, by a derivation at
+-- both places. Of secrecy: the game itself has the form, and no pair is given. Blanchet, CSF 2007, for correspondences, and
 -- TDSC 2008, for secrecy; certificates are this profile's own.
-use Rattle.std.specs.Prelude.{◌≡◌, ℕ, Bool, true, false, ◌&&◌, ◌||◌, not, List, [], ◌∷◌}
+use Rattle.std.specs.Prelude.{◌≡◌, ℕ, Bool, true, false, List, [], ◌∷◌}
 use Rattle.std.specs.List.{AllByRecursion}
-use Rattle.cv_syntax_trees.specs.declared.head.Head.TheVariants.{DistinctPart, EventsCertificate, Query, Secret, SecretCertificate, SecretOnce}
+use Rattle.cv_syntax_trees.specs.declared.head.Head.TheVariants.{EventsCertificate, Query, Secret, SecretCertificate, SecretOnce}
 use Rattle.cv_syntax_trees.specs.Children.{is_empty}
 use Rattle.cv_syntax_trees.specs.Tree.{Tree, Empty, Node}
 use Rattle.cv_meaning.specs.Correspondences.{Correspondence, correspondence_of}
@@ -14,6 +15,9 @@ use Rattle.cv_scene.specs.Sights.{sight_at}
 use Rattle.cv_query_certificates.specs.Alternatives.{has_list}
 use Rattle.cv_query_certificates.specs.Claims.{Claim, entry_claims}
 use Rattle.cv_query_certificates.specs.Forms.{has_form, left_places}
+use Rattle.cv_query_certificates.specs.Marks.{raise_of}
+use Rattle.cv_query_certificates.specs.PairParts.{AreDistinct, ArePairs, behind_entries, distinct_in, pairs_in}
+use Rattle.cv_query_certificates.specs.Pairs.{needed_pairs}
 use Rattle.cv_query_certificates.specs.Secrets.{IsSecret}
 
 -- the derivation is right at the place, and ends with the targets
@@ -25,14 +29,24 @@ pub record IsEntry (s : Scene) (q : Correspondence) (place : ℕ) (entry : Tree)
   pub form : has_form s q place entry ≡ true
   pub claims : AllByRecursion (Proves s place) (entry_claims s q place entry)
 
--- an entry for each place, in order, and nothing else
+-- an entry for each place, in order
 abbrev pub AreEntries : Scene → Correspondence → List ℕ → (parts : Tree) → Type 0
-AreEntries s q [] Empty = Unit {0}
+AreEntries s q [] parts = Unit {0}
 AreEntries s q (p ∷ ps) (Node h entry more) = IsEntry s q p entry × AreEntries s q ps more
 AreEntries s q ps parts = ⊥
 
+-- What stands behind the entries: the pairs that are needed, each with its derivation, in which the values of some variables are taken to
+-- differ, which are chosen at random from large types. The indices of second copies are named from the number k on.
+pub record IsRest (s : Scene) (q : Correspondence) (k : ℕ) (parts rest : Tree) : Type 0 where
+  pub pairs : ArePairs s k (distinct_in rest) (needed_pairs s k q parts) (pairs_in rest)
+  pub distinct : AreDistinct s [] (distinct_in rest)
+
+pub record AreParts (s : Scene) (q : Correspondence) (places : List ℕ) (parts : Tree) : Type 0 where
+  pub entries : AreEntries s q places parts
+  pub rest : IsRest s q (raise_of s parts) parts (behind_entries places parts)
+
 abbrev pub IsEventsProof : Scene → Correspondence → (certificate : Tree) → Type 0
-IsEventsProof s q (Node EventsCertificate parts e) = AreEntries s q (left_places s q) parts
+IsEventsProof s q (Node EventsCertificate parts e) = AreParts s q (left_places s q) parts
 IsEventsProof s q certificate = ⊥
 
 -- of secrecy, in one session or in many
@@ -45,20 +59,8 @@ IsProofOf s (Node (Secret x) a b) certificate = IsSecretProof false s x certific
 IsProofOf s (Node (SecretOnce x) a b) certificate = IsSecretProof true s x certificate
 IsProofOf s query certificate = IsEventsProof s (correspondence_of query) certificate
 
--- What has a rule by now: certificates of correspondences without `inj` and without alternatives that name no distinct variables,
--- and of secrecy without pairs. Pairs, injective correspondences, alternatives and distinct variables have none yet.
-
-abbrev pub is_distinct_part : Tree → Bool
-is_distinct_part (Node DistinctPart names e) = true
-is_distinct_part part = false
-
-abbrev pub names_distinct : (parts : Tree) → Bool
-names_distinct Empty = false
-names_distinct (Node h part more) = is_distinct_part part || names_distinct more
-
-abbrev pub names_no_distinct : (certificate : Tree) → Bool
-names_no_distinct (Node EventsCertificate parts e) = not (names_distinct parts)
-names_no_distinct certificate = true
+-- What has a rule by now: certificates of correspondences without alternatives, and of secrecy without pairs. Those of alternatives, and
+-- pairs of secrecy, have none yet.
 
 -- a certificate of secrecy gives none
 abbrev pub gives_no_pair : (certificate : Tree) → Bool
@@ -66,10 +68,9 @@ gives_no_pair (Node SecretCertificate parts e) = is_empty parts
 gives_no_pair certificate = true
 
 abbrev pub is_built : (query certificate : Tree) → Bool
-is_built (Node Query binders sides) certificate =
-    not (correspondence_of (Node Query binders sides)).inj && (has_list (Node Query binders sides) && names_no_distinct certificate)
-is_built (Node (Secret x) a b) certificate = names_no_distinct certificate && gives_no_pair certificate
-is_built (Node (SecretOnce x) a b) certificate = names_no_distinct certificate && gives_no_pair certificate
+is_built (Node Query binders sides) certificate = has_list (Node Query binders sides)
+is_built (Node (Secret x) a b) certificate = gives_no_pair certificate
+is_built (Node (SecretOnce x) a b) certificate = gives_no_pair certificate
 is_built query certificate = false
 
 pub record IsAccepted (s : Scene) (query certificate : Tree) : Type 0 where

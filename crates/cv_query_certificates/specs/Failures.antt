@@ -14,6 +14,9 @@ use Rattle.cv_query_certificates.specs.Alternatives.{has_list}
 use Rattle.cv_query_certificates.specs.Claims.{Claim, entry_claims}
 use Rattle.cv_query_certificates.specs.EventNodes.{place_in}
 use Rattle.cv_query_certificates.specs.Forms.{has_form, left_places}
+use Rattle.cv_query_certificates.specs.Marks.{raise_of}
+use Rattle.cv_query_certificates.specs.PairParts.{behind_entries, distinct_in, first_unfit_name, first_wrong_pair, pairs_in}
+use Rattle.cv_query_certificates.specs.Pairs.{needed_pairs}
 use Rattle.cv_query_certificates.specs.Secrets.{first_definition, first_offence_of_choices, first_offence_of_copies, starts_by_let}
 
 pub record Failure : Type 0 where
@@ -48,18 +51,18 @@ is_right s p c = not (is_some (first_bad_line (sight_at s p) c.by))
 abbrev pub has_end : Scene → (place : ℕ) → Claim → Bool
 has_end s p c = ends_with c.by c.targets
 
--- without `inj` no pair is needed: the place of the first part behind the entries
-abbrev pub first_surplus : List ℕ → (parts : Tree) → Option ℕ
-first_surplus ps Empty = None
-first_surplus [] (Node h part more) = Some (place_in (first part))
-first_surplus (p ∷ ps) (Node h part more) = first_surplus ps more
+-- of what stands behind the entries
+abbrev pub rest_failure : Scene → Correspondence → (k : ℕ) → (parts rest : Tree) → Option Failure
+rest_failure s q k parts rest =
+    first_of (failure 5 (first_wrong_pair s k (distinct_in rest) (needed_pairs s k q parts) (pairs_in rest)))
+    (failure 6 (first_unfit_name s [] (distinct_in rest)))
 
 abbrev pub parts_failure : Scene → Correspondence → List ℕ → (parts : Tree) → Option Failure
 parts_failure s q ps parts =
     first_of (failure 2 (first_unformed s q ps parts))
     (first_of (failure 3 (first_failing is_right s q ps parts))
     (first_of (failure 4 (first_failing has_end s q ps parts))
-    (failure 5 (first_surplus ps parts))))
+    (rest_failure s q (raise_of s parts) parts (behind_entries ps parts))))
 
 -- the first of the places, or 0
 abbrev pub least_place : List ℕ → ℕ
@@ -93,10 +96,14 @@ forms_failure once game x None q = None
 forms_failure once game x (Some p) None = if once then None else failed 5 (place_or_start (first_definition game x))
 forms_failure once game x (Some p) (Some q) = failed 7 (if starts_by_let game x then q else p)
 
--- no pair is needed by what has a rule
+-- no pair is needed by what has a rule: the place of the first that is given
+abbrev pub first_surplus : (pairs : Tree) → Option ℕ
+first_surplus Empty = None
+first_surplus (Node h part more) = Some (place_in (first part))
+
 abbrev pub pairs_failure : (once : Bool) → Scene → (x : ℕ) → (pairs : Tree) → Option Failure
 pairs_failure once s x pairs =
-    first_of (failure 5 (first_surplus [] pairs)) (forms_failure once s.game x (first_offence_of_choices s.game x) (first_offence_of_copies s x))
+    first_of (failure 5 (first_surplus pairs)) (forms_failure once s.game x (first_offence_of_choices s.game x) (first_offence_of_copies s x))
 
 abbrev pub secret_failure : (once : Bool) → Scene → (x : ℕ) → (certificate : Tree) → Option Failure
 secret_failure once s x (Node SecretCertificate pairs e) = pairs_failure once s x pairs

@@ -3,6 +3,10 @@ pub mod EventNodes
 pub mod Claims
 pub mod Forms
 pub mod Secrets
+pub mod Marks
+pub mod Pairs
+pub mod PairParts
+pub mod SecretPairs
 pub mod Accepted
 pub mod Failures
 pub mod Worked

@@ -119,6 +119,13 @@ direct_cases =
     ∷ (Some begun, events (never 4 (is_true ∷ []) ∷ []), fails 4 4)
     ∷ (Some begun, events (entry 4 [] (above 2 (is_true ∷ []) ∷ []) ∷ []), fails 4 4)
     ∷ (Some begun, events (direct_entry ∷ pair 4 4 1 ∷ []), fails 5 4)
+    ∷ (Some begun, events (direct_entry ∷ distinct 4 ∷ []), fails 6 1)
+    ∷ (Some begun, events (direct_entry ∷ distinct 77 ∷ []), fails 6 0)
+    ∷ (Some begun_once, events (direct_entry ∷ []), fails 5 4)
+    ∷ (Some begun_once, events (direct_entry ∷ pair 4 4 1 ∷ []), None)
+    ∷ (Some begun_once, events (direct_entry ∷ pair 3 4 1 ∷ []), fails 5 3)
+    ∷ (Some begun_once, events (direct_entry ∷ pair 4 4 2 ∷ []), fails 5 4)
+    ∷ (Some begun_once, events (direct_entry ∷ pair 4 4 1 ∷ pair 9 9 1 ∷ []), fails 5 9)
     ∷ []
 
 -- !1 <= 2 in(3[1], (9: 5)); event 11(9[1]); of 4: 5 = 9[1] one definition or two

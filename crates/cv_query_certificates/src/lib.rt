@@ -1,4 +1,4 @@
-// Certificates of correspondences without `inj` and of secrecy: which are accepted, and which condition fails first.
+// Certificates of correspondences and of secrecy: which are accepted, and which condition fails first.
 #![tactic(auto)]
 
 ghost use Rattle.std.specs.Prelude.{◌≡◌, ◌↔◌, ◌∷◌, [], true, false, Some, None};
@@ -7,7 +7,7 @@ ghost use Rattle.cv_syntax_trees.specs.Tree.{Tree};
 ghost use Rattle.cv_scene.specs.Scenes.{Scene};
 ghost use Rattle.cv_query_certificates.specs.Accepted.{IsAccepted, is_built};
 ghost use Rattle.cv_query_certificates.specs.Failures.{first_failure};
-ghost use Rattle.cv_query_certificates.specs.Worked.{begun, begun_once, cell_cases, cell_entry, direct, direct_cases, direct_entry, distinct, events, is_true, never, one_site, two_sites, two_sites_cases};
+ghost use Rattle.cv_query_certificates.specs.Worked.{begun, begun_once, cell_cases, cell_entry, direct, direct_cases, direct_entry, events, is_true, never, one_site, pair, two_sites, two_sites_cases};
 ghost use Rattle.cv_query_certificates.specs.Secrets.{IsSecret};
 ghost use Rattle.cv_query_certificates.specs.WorkedSecrets.{Fails, by_form, by_pair, chosen, compared, copied, secret, secret_cases, secret_once};
 
@@ -28,8 +28,8 @@ pub fn worked_certificates()
     ensures cell { IsAccepted one_site begun (events (cell_entry 26 ∷ [])) }
     ensures other { IsAccepted two_sites begun (events (cell_entry 35 ∷ [])) → ⊥ }
     ensures never { IsAccepted direct begun (events (never 4 (is_true ∷ []) ∷ [])) → ⊥ }
-    ensures injective { is_built begun_once (events (direct_entry ∷ [])) ≡ false }
-    ensures distinct { is_built begun (events (direct_entry ∷ distinct 4 ∷ [])) ≡ false }
+    ensures once { IsAccepted direct begun_once (events (direct_entry ∷ pair 4 4 1 ∷ [])) }
+    ensures unpaired { IsAccepted direct begun_once (events (direct_entry ∷ [])) → ⊥ }
 {
     accepted_exactly_where_nothing_fails();
 }

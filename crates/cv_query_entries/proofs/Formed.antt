@@ -10,10 +10,10 @@ use Rattle.cv_scene.specs.Scenes.{Scene}
 use Rattle.cv_scene.specs.Sights.{Sight, sight_at}
 use Rattle.cv_query_certificates.specs.Alternatives.{only_atoms}
 use Rattle.cv_query_certificates.specs.EventNodes.{are_as_many, are_for, arguments_at}
-use Rattle.cv_query_certificates.specs.Failures.{first_surplus, first_unformed}
+use Rattle.cv_query_certificates.specs.Failures.{first_unformed}
 use Rattle.cv_query_certificates.specs.Forms.{has_form, have_route_forms, have_types, is_number}
-use Rattle.cv_query_entries.specs.Said.{Saying, Way, With, has_saying, has_way, has_with, saying_of, way_of}
-use Rattle.cv_query_entries.proofs.Said.{entry_form, route_form}
+use Rattle.cv_query_parts.specs.Said.{Saying, Way, With, has_saying, has_way, has_with, saying_of, way_of}
+use Rattle.cv_query_parts.proofs.Said.{entry_form, route_form}
 
 pub ruleset formed = (tree_of_NoTree)
 
@@ -51,9 +51,6 @@ module _ (s : Scene) (q : Correspondence) (p : ℕ) (ws rs xs ms : Tree) (e : q.
 
 pub no_entry : (s : Scene) (q : Correspondence) (ps : List ℕ) (k : ℕ) (t : Tree) → k < length ps → t ≡ Empty → Some (get_or ps k 0) ≡ first_unformed s q (drop k ps) t
 no_entry s q ps k t l e = sym (ap₂ (first_unformed s q) (drop_more ps k 0 l) e)
-
-pub surplus_more : (ps : List ℕ) (k : ℕ) (t : Tree) (h : Head) (part more : Tree) → k < length ps → t ≡ Node h part more → first_surplus (drop (k + 1) ps) more ≡ first_surplus (drop k ps) t
-surplus_more ps k t h part more l e = sym (ap₂ first_surplus (drop_more ps k 0 l) e)
 
 pub no_witness : (s : Sight) (xs : List (ℕ × ℕ)) (k : ℕ) (t : Tree) → k < length xs → t ≡ Empty → false ≡ have_types s (drop k xs) t
 no_witness s xs k t l e = sym (ap₂ (have_types s) (drop_more xs k (0, 0) l) e)

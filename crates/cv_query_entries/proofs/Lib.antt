@@ -1,4 +1,3 @@
-mod Said
 mod Places
 mod Sites
 mod Formed

@@ -1,5 +1,3 @@
 pub mod Nodes
-pub mod Views
-pub mod Said
 pub mod terms
 pub mod ends

@@ -5,11 +5,11 @@ ghost use Rattle.cv_directory.specs.Definitions.{entries_of, large_in};
 ghost use Rattle.cv_directory.specs.Tables.{entries_in};
 ghost use Rattle.cv_query_certificates.specs.EventNodes.{only_site};
 ghost use Rattle.cv_query_entries.specs.Nodes as nodes;
-ghost use Rattle.cv_query_entries.specs.Views.{IsReady, game_of, trees_of};
+ghost use Rattle.cv_query_parts.specs.Views.{IsReady, game_of, trees_of};
 
-use crate::views::View;
 use cv_derive_reasons::cells::{only_definition, variable};
 use cv_directory::Directory;
+use cv_query_parts::View;
 use cv_syntax::NodeId;
 use cv_typing::Arrays;
 use std::alloc::{AllocError, Global};

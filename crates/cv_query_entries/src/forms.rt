@@ -10,16 +10,17 @@ ghost use Rattle.cv_scene.specs.Terms.{above_at};
 ghost use Rattle.cv_query_certificates.specs.EventNodes.{only_site};
 ghost use Rattle.cv_query_certificates.specs.Failures as failures;
 ghost use Rattle.cv_query_certificates.specs.Forms as forms;
-ghost use Rattle.cv_query_entries.specs.Said.{IsAtomBelow, IsRouteBelow, atom_seen, has_way, has_with, way_seen};
-ghost use Rattle.cv_query_entries.specs.Views.{IsAskedBelow, IsReady, asked_of, game_of, scene_of, trees_of};
+ghost use Rattle.cv_query_parts.specs.Said.{IsAtomBelow, IsRouteBelow, atom_seen, has_way, has_with, way_seen};
+ghost use Rattle.cv_query_parts.specs.Views.{IsAskedBelow, IsReady, asked_of, game_of, scene_of, trees_of};
 
 use crate::cells::site_place;
 use crate::nodes::{are_as_many, is_event_above};
-use crate::parts::{is_number, surplus_entry};
-use crate::views::{Asked, Atom, Entry, Route, View, atom_of, entry_of, route_of};
 use cv_derive_lines::Claim;
 use cv_derive_lines::terms::{is_term_of, is_typed_claim};
 use cv_directory_sorts::Sort;
+use cv_query_parts::{
+    Asked, Atom, Entry, Route, View, atom_of, entry_of, is_number, route_of, surplus_entry,
+};
 use cv_scene_view::{indices_at, part_at};
 use cv_syntax::children::{first_of, is_empty};
 use cv_syntax::{NodeId, read_node};

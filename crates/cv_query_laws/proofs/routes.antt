@@ -1,1 +1,1 @@
-mod Executed
+pub mod Executed

@@ -1,4 +1,3 @@
 pub mod correspondences
-pub mod secrets
 pub mod routes
 pub mod visits

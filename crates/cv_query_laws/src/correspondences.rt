@@ -26,19 +26,23 @@ pub fn events_are_those_of_visits()
         (run g m a game t).memory.events ≡ happenings g (visits_of_run g m a game t) }
 {}
 
-/// A correspondence whose certificate is accepted in a game that is typed and in array scope is broken on no
-/// tape that is counted, in each interpretation that satisfies the declarations and against each adversary.
+/// A correspondence without `inj` whose certificate is accepted in a game that is typed and in array scope
+/// is broken on no tape that is counted, in each interpretation that satisfies the declarations and against
+/// each adversary.
 /// So no adversary has an advantage against the query.
 pub fn accepted_correspondences_are_never_broken()
     ensures tapes { (s : Scene) (query certificate : Tree) → IsProved s query certificate →
+        (correspondence_of query).inj ≡ false →
         (i : Interpretation) → Satisfies s.declarations i → (a : Adversary) →
         All (λ t. broken (setting_of s.declarations i) (correspondence_of query)
         (run (setting_of s.declarations i) Events a s.game t).memory.events ≡ false)
         (tapes_of (cells (setting_of s.declarations i) Events a s.game) blank) }
     ensures chance { (s : Scene) (query certificate : Tree) → IsProved s query certificate →
+        (correspondence_of query).inj ≡ false →
         (i : Interpretation) → Satisfies s.declarations i → (a : Adversary) →
         AtMost (chance_of (setting_of s.declarations i) (Breaks query) a s.game) zero_chance }
     ensures query { (s : Scene) (query certificate : Tree) → IsProved s query certificate →
+        (correspondence_of query).inj ≡ false →
         (i : Interpretation) → Satisfies s.declarations i → (a : Adversary) →
         AtMost (advantage (setting_of s.declarations i) query a s.game) zero_chance }
 {

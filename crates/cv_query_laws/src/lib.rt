@@ -3,5 +3,4 @@
 
 pub mod correspondences;
 pub mod routes;
-pub mod secrets;
 pub mod visits;

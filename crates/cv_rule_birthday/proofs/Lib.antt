@@ -1,5 +1,4 @@
 mod Changes
-mod Copies
 mod Equated
 mod Planned
 mod Roots

@@ -8,13 +8,14 @@ use Rattle.cv_bound.specs.Sums.{coefficients, terms_of}
 use Rattle.cv_steps.specs.Costs.{cost_of}
 use Rattle.cv_steps.specs.Steps.{Cost, Leads}
 use Rattle.cv_costs.specs.Collisions.{one_for_pairs}
+use Rattle.cv_costs.specs.Copies.{parameters_of}
 use Rattle.cv_costs.specs.wording.Changing.{changed_at}
 use Rattle.cv_edit_places.specs.Parts.{AreLive, made_by, stack_of, top_of}
 use Rattle.cv_edit_places.specs.Plans.{IsCostly, IsPricedChange, failed, failing}
 use Rattle.cv_edit_places.specs.declared.change.Change.TheVariants.{Built}
 use Rattle.cv_edit_places.specs.declared.parts.Parts.{Parts}
 use Rattle.cv_edit_places.specs.declared.plan.Priced.{Priced}
-use Rattle.cv_rule_birthday.specs.Chosen.{IsChosen, parameters_of}
+use Rattle.cv_rule_birthday.specs.Chosen.{IsChosen}
 use Rattle.cv_rule_birthday.specs.Comparing.{compared, is_one_of}
 use Rattle.cv_rule_birthday.specs.Conditions.{stands_at_places}
 use Rattle.cv_rule_birthday.specs.Needs.{made_of_changed}

@@ -1,24 +1,14 @@
--- What the code plans by: the type of a variable's values, and the parameters of its copies.
-use Rattle.std.specs.Prelude.{◌≡◌, ℕ, List, [], Option, Some, None, Result, Ok, Err}
-use Rattle.cv_directory_sorts.specs.Sites.{Variable, first_site}
-use Rattle.cv_syntax_trees.specs.Tree.{Tree}
+-- What the code plans by: the type of a variable's values.
+use Rattle.std.specs.Prelude.{◌≡◌, ℕ, List, Some, Result, Ok, Err}
 use Rattle.cv_scene.specs.Scenes.{Scene}
 use Rattle.cv_steps.specs.Steps.{Leads}
 use Rattle.cv_costs.specs.Collisions.{one_for_pairs}
+use Rattle.cv_costs.specs.Copies.{parameters_of}
 use Rattle.cv_costs.specs.wording.Changing.{changed_at}
 use Rattle.cv_edit_places.specs.Plans.{failing}
 use Rattle.cv_edit_places.specs.declared.plan.Failure.{Failure}
 use Rattle.cv_rule_birthday.specs.Comparing.{compared, is_one_of}
 use Rattle.cv_rule_birthday.specs.Row.{birthday_row}
-
--- the parameters of a variable, none where there is no variable
-
-abbrev pub parameters_by : Option Variable → List ℕ
-parameters_by None = []
-parameters_by (Some v) = v.parameters
-
-abbrev pub parameters_of : (game : Tree) → (x : ℕ) → List ℕ
-parameters_of game x = parameters_by (first_site x [] game)
 
 -- the row leads to the game with comparisons of indices, at the cost of values of this type; or this condition fails
 abbrev pub IsChosen : Scene → (x : ℕ) → (places : List ℕ) → Result ℕ Failure → Type 0

@@ -1,22 +1,15 @@
 -- The step `birthday`: comparisons of two cells of one array, whose values are all chosen at random, become comparisons of their indices.
 -- Blanchet, TDSC 2008, bounds by collisions how often they differ; the conditions and their order are this profile's own.
 use Rattle.std.specs.Prelude.{ℕ, List, [], Option, Some, None}
-use Rattle.cv_directory_sorts.specs.declared.sort.Sort.{Sort}
-use Rattle.cv_directory_sorts.specs.declared.sort.Sort.TheVariants.{BelowParameter, OfType}
 use Rattle.cv_directory_sorts.specs.Sites.{Variable, first_site}
 use Rattle.cv_scene.specs.Scenes.{Scene}
 use Rattle.cv_steps.specs.Rows.{unless, unless_at}
 use Rattle.cv_steps.specs.Steps.{Fails, Leads, Row, Step}
-use Rattle.cv_costs.specs.Collisions.{one_for_pairs}
+use Rattle.cv_costs.specs.Collisions.{one_for_pairs, type_of}
 use Rattle.cv_scene.specs.Large.{first_other_site, is_large}
 use Rattle.cv_costs.specs.wording.Changing.{changed_at}
 use Rattle.cv_rule_birthday.specs.Comparing.{compared, first_uncompared, is_one_of}
 use Rattle.cv_rule_birthday.specs.Conditions.{stands_at_places}
-
--- the type of a variable
-abbrev pub type_of : Sort → ℕ
-type_of (OfType T) = T
-type_of (BelowParameter n) = n
 
 -- By the first definition of the variable. In a typed game its type is a large one where the definitions are `new` of large types.
 abbrev pub birthday_row_by : Scene → (x : ℕ) → (places : List ℕ) → Option Variable → Row

@@ -1,31 +1,18 @@
-ghost use Rattle.std.specs.Prelude.{◌≡◌, ◌<◌, ◌^◌, IfOk, Some, length};
+ghost use Rattle.std.specs.Prelude.{◌≡◌, ◌<◌, ◌^◌, Some, length};
 ghost use Rattle.cv_syntax_trees.specs.Tree.{size};
 ghost use Rattle.cv_syntax.specs.PoolTrees.{tree_at};
 ghost use Rattle.cv_directory_sorts.specs.Sites.{sites_of};
 ghost use Rattle.cv_typing.specs.Tables.{arrays_of};
-ghost use Rattle.cv_scope_rules.specs.typing.Signature.{OfGame, variable_in};
+ghost use Rattle.cv_scope_rules.specs.typing.Signature.{OfGame};
 ghost use Rattle.cv_scene_view.specs.Kept.{scene_of};
-ghost use Rattle.cv_rule_birthday.specs.Chosen.{IsChosen, parameters_by};
-ghost use Rattle.cv_rule_birthday.specs.Row as row;
+ghost use Rattle.cv_rule_birthday.specs.Chosen.{IsChosen};
 
 use crate::comparisons::first_uncompared;
 use crate::conditions::failed;
-use cv_costs::{first_other_site, is_large};
-use cv_directory_sorts::Sort;
+use cv_costs::{first_other_site, is_large, type_of};
 use cv_edit_places::Failure;
 use cv_syntax::{NodeId, Work};
 use cv_typing::Arrays;
-use std::alloc::{AllocError, Global};
-
-/// The type of a variable, or the parameter of one whose values are indices.
-fn type_of(sort: Sort) -> u32
-    ensures { result ≡ row.type_of sort }
-{
-    match sort {
-        Sort::OfType(t) => t,
-        Sort::BelowParameter(n) => n,
-    }
-}
 
 /// The type of a variable that is chosen at random and of which two cells are compared at some places; or the first condition that
 /// fails.
@@ -56,18 +43,4 @@ pub(crate) fn chosen_type(
         return Err(failed(2, 0));
     }
     Ok(of_type)
-}
-
-/// The parameters of a variable's copies.
-pub(crate) fn parameters_of(alloc: Global, arrays: &Arrays, x: u32) -> Result<Vec<u32>, AllocError>
-    ensures { IfOk result (λ made. made.items
-        ≡ parameters_by (variable_in (arrays_of arrays.now) x)) }
-{
-    let mut made = Vec::new(alloc);
-    let mut k = 0;
-    'parameters: while let Some(n) = arrays.parameter(x, k) {
-        made.push(n)?;
-        k += 1;
-    }
-    Ok(made)
 }

@@ -13,9 +13,9 @@ ghost use Rattle.cv_rule_birthday.specs.Needs.{made_of_changed};
 ghost use Rattle.cv_rule_birthday.specs.Row.{birthday_step};
 
 use crate::changing::changed_parts;
-use crate::choices::{chosen_type, parameters_of};
+use crate::choices::chosen_type;
 use crate::conditions::{failed, stands};
-use cv_costs::cost_of_pairs;
+use cv_costs::{cost_of_pairs, parameters_of};
 use cv_edit_places::{Change, Failure, Priced};
 use cv_syntax::{NodeId, Work};
 use cv_typing::Arrays;

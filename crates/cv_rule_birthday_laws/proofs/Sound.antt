@@ -38,7 +38,8 @@ use Rattle.cv_costs.proofs.wording.Places.{at_root}
 use Rattle.cv_rule_fresh.specs.collisions.Chances.{copies}
 use Rattle.cv_scene.specs.Large.{first_other_site, is_large, is_large_by}
 use Rattle.cv_rule_birthday.specs.Comparing.{compared, first_uncompared, is_comparison, is_one_of}
-use Rattle.cv_rule_birthday.specs.Row.{birthday_row, birthday_row_by, birthday_step, type_of}
+use Rattle.cv_costs.specs.Collisions.{type_of}
+use Rattle.cv_rule_birthday.specs.Row.{birthday_row, birthday_row_by, birthday_step}
 use Rattle.cv_rule_birthday_laws.specs.chosen.Drawn.{pairs_over}
 use Rattle.cv_rule_birthday_laws.proofs.Conditions.{all_compared, chosen_alone}
 use Rattle.cv_rule_birthday_laws.proofs.Keeping.{costs}

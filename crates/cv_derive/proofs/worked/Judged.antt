@@ -2,7 +2,7 @@
 use Rattle.std.proofs.Common.{◌≡◌, true, false, [], ◌∷◌, Some, None, refl}
 use Rattle.std.specs.List.{AllByRecursion}
 use Rattle.cv_syntax.specs.faults.Walk.{first_fault}
-use Rattle.cv_syntax_trees.specs.declared.head.Head.TheVariants.{ByAgain, ByAnd, ByBool, ByCong, ByContra, ByData, ByEquation, ByFact, ByGiven, ByHere, ByMp, ByOf, ByOtherFact, ByOtherHere, ByRefl, BySame, BySite, BySym, ByTrans}
+use Rattle.cv_syntax_trees.specs.declared.head.Head.TheVariants.{ByAgain, ByBool, ByCong, ByContra, ByData, ByEquation, ByFact, ByHere, ByMp, ByOf, ByOtherFact, ByOtherHere, ByRefl, BySame, BySite, BySym, ByTrans}
 use Rattle.cv_syntax_trees.specs.Builders.{leaf}
 use Rattle.cv_syntax_trees.specs.Tree.{Empty, Node, chain, lone, size, subtree, same_tree}
 use Rattle.cv_directory_sorts.specs.Sites.{bound_sort, first_index, first_site}

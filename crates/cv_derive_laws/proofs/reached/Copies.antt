@@ -1,5 +1,5 @@
 -- What a derivation at two places says is true of two copies that were reached.
-use Rattle.std.proofs.Common.{◌≡◌, ℕ, ◌+◌, ◌<◌, Bool, true, false, cond, ◌&&◌, ◌||◌, ◌==◌, not, List, [], ◌∷◌, ◌++◌, map, ◌⊎◌, inl, inr, Option, Some, None, is_some, refl, sym, ap, ap₂, subst, ◌∙◌, arith, eqb-true, eq-eqb, ne_eqb}
+use Rattle.std.proofs.Common.{◌≡◌, ℕ, ◌+◌, ◌<◌, Bool, true, false, cond, ◌&&◌, ◌||◌, ◌==◌, not, List, [], ◌∷◌, ◌++◌, map, inl, inr, Option, Some, None, is_some, refl, sym, ap, ap₂, subst, ◌∙◌, arith, eqb-true, eq-eqb, ne_eqb}
 use Rattle.std.proofs.lemmas.Bool.{both_ways}
 use Rattle.std.specs.List.{AllByRecursion}
 use Rattle.cv_syntax_trees.specs.declared.head.Head.TheVariants.{Leaf, Read, Apply, Eq, And, Or, Not, Yes, No, Cons}
@@ -23,7 +23,7 @@ use Rattle.cv_scene.specs.Derivations.{Derives}
 use Rattle.cv_scene.specs.Late.{index_term}
 use Rattle.cv_scene.specs.Pairs.{all_of_second, pair_at, second_index, second_indices}
 use Rattle.cv_scene.specs.Scenes.{Scene}
-use Rattle.cv_scene.specs.Sights.{Pair, cells_by, facts_by}
+use Rattle.cv_scene.specs.Sights.{cells_by, facts_by}
 use Rattle.cv_scene.specs.Terms.{replications_at}
 use Rattle.cv_derive_laws.specs.reached.Copies.{AreReached, both_copies}
 use Rattle.cv_derive_laws.specs.reached.Fine.{IsFine, IsFineCell, IsFineTerm, IsNamed}
@@ -37,7 +37,7 @@ use Rattle.cv_derive_laws.proofs.reached.Targets.{ends_hold}
 
 -- names in two lists of indices
 
-found_first : (a b : Indices) (x v : ℕ) → found_in a x ≡ Some v → found_in (a ++ b) x ≡ Some v
+pub found_first : (a b : Indices) (x v : ℕ) → found_in a x ≡ Some v → found_in (a ++ b) x ≡ Some v
 found_first [] b x v e = absurd (cc)
 found_first (c ∷ a) b x v e = go (c.0 == x) e (found_first a b x v)
   where
@@ -89,7 +89,7 @@ module _ (g : Setting) (a b : Indices) (n : Store) (L : ℕ → Type 0) (R : Typ
   mutual
     unfolding value
 
-    value_same : (t : Tree) → IsOver L R t → value g a n t ≡ value g b n t
+    pub value_same : (t : Tree) → IsOver L R t → value g a n t ≡ value g b n t
     value_same Empty o = absurd o
     value_same (Node (Leaf x) c d) o = leaves x o
     value_same (Node (Read x) c d) o = ap (λ u. or_zero (n x u)) (values_same c o.1)
@@ -102,46 +102,46 @@ module _ (g : Setting) (a b : Indices) (n : Store) (L : ℕ → Type 0) (R : Typ
     value_same (Node No c d) o = refl
     value_same (Node h c d) o = absurd o
 
-    values_same : (t : Tree) → AreOver L R t → values g a n t ≡ values g b n t
+    pub values_same : (t : Tree) → AreOver L R t → values g a n t ≡ values g b n t
     values_same Empty o = refl
     values_same (Node Cons c d) o = ap₂ ◌∷◌ (value_same c o.0) (values_same d o.1)
     values_same (Node h c d) o = absurd o
 
 module _ (s : Scene) (i : Interpretation) (ready : IsReady s.declarations s.game) (model : Satisfies s.declarations i) (behind : (y : ℕ) → AllByRecursion (IsBehind s.game) (sites_of s.game y)) (p q k : ℕ) (at other : Indices) (x : Memory) (r : AreReached s i p q k at other x) where
-  abbrev g : Setting
+  abbrev pub g : Setting
   g = setting_of s.declarations i
 
-  abbrev m : Store
+  abbrev pub m : Store
   m = x.store
 
-  abbrev both : Indices
+  abbrev pub both : Indices
   both = both_copies k at other
 
-  abbrev Γ : Context
+  abbrev pub Γ : Context
   Γ = r.first.context
 
-  abbrev Δ : Context
+  abbrev pub Δ : Context
   Δ = r.second.context
 
-  first_stands : reached.IsBetween s i ready model behind Γ at m m
+  pub first_stands : reached.IsBetween s i ready model behind Γ at m m
   first_stands = reached.one_stands s i ready model behind Γ at x r.first.stands
 
-  second_stands : reached.IsBetween s i ready model behind Δ other m m
+  pub second_stands : reached.IsBetween s i ready model behind Δ other m m
   second_stands = reached.one_stands s i ready model behind Δ other x r.second.stands
 
   sites : reached.SitesBetween s i ready model behind m m
   sites = reached.one_sites s i ready model behind x r.first.sites
 
-  first_known : Γ.replications ≡ replications_at s p
+  pub first_known : Γ.replications ≡ replications_at s p
   first_known = reached.known_there s i ready model behind p Γ at m m r.first.known first_stands sites r.first.types
 
-  second_known : Δ.replications ≡ replications_at s q
+  pub second_known : Δ.replications ≡ replications_at s q
   second_known = reached.known_there s i ready model behind q Δ other m m r.second.known second_stands sites r.first.types
 
-  fine : (p : ℕ) (Γ : Context) → stands_at s.game p ≡ Some Γ → IsFine s.declarations s.game Γ
+  pub fine : (p : ℕ) (Γ : Context) → stands_at s.game p ≡ Some Γ → IsFine s.declarations s.game Γ
   fine = places_fine s.declarations s.game ready.formed.phrase (typed s.declarations s.game ready.arguments ready.formed ready.typed ready.names) ready.cells
 
-  indices : AreIndicesOf g both (replications_at s p ++ second_indices k (replications_at s q))
+  pub indices : AreIndicesOf g both (replications_at s p ++ second_indices k (replications_at s q))
   indices =
       indices_append g at (map (second_index k) other) (replications_at s p) (second_indices k (replications_at s q)) (subst (AreIndicesOf g at) first_known first_stands.indices)
       (second_indices_are k g other (replications_at s q) (subst (AreIndicesOf g other) second_known second_stands.indices))
@@ -157,15 +157,15 @@ module _ (s : Scene) (i : Interpretation) (ready : IsReady s.declarations s.game
   none_of_both : (y : ℕ) → y < k → found_in at y ≡ None → found_in both y ≡ None
   none_of_both y l e = found_behind at (map (second_index k) other) y e ∙ second_none k other y l
 
-  constant_none : (y : ℕ) → is_constant_of s.declarations y ≡ true → found_in both y ≡ None
+  pub constant_none : (y : ℕ) → is_constant_of s.declarations y ≡ true → found_in both y ≡ None
   constant_none y e = none_of_both y (r.above.constants y e) (first_constant y e)
 
-  variable_none : (y : ℕ) → is_variable s.game y ≡ true → found_in both y ≡ None
+  pub variable_none : (y : ℕ) → is_variable s.game y ≡ true → found_in both y ≡ None
   variable_none y e = none_of_both y (r.above.variables y e) (first_variable y e)
 
   -- what stands at the first place
 
-  leaf : (y : ℕ) → IsNamed s.declarations s.game Γ.replications y → leaf_value_from g m y (found_in both y) ≡ leaf_value_from g m y (found_in at y)
+  pub leaf : (y : ℕ) → IsNamed s.declarations s.game Γ.replications y → leaf_value_from g m y (found_in both y) ≡ leaf_value_from g m y (found_in at y)
   leaf y (inl e) = go (found_in at y) refl
     where
       go : (o : Option ℕ) → found_in at y ≡ o → leaf_value_from g m y (found_in both y) ≡ leaf_value_from g m y (found_in at y)
@@ -208,10 +208,10 @@ module _ (s : Scene) (i : Interpretation) (ready : IsReady s.declarations s.game
   second_terms (c ∷ a) [] h f = absurd h
   second_terms (c ∷ a) (d ∷ rs) h f = ap₂ ◌∷◌ (second_leaf c d h.0 f.0) (second_terms a rs h.2 f.1)
 
-  abbrev terms : Tree
+  abbrev pub terms : Tree
   terms = chain (map index_term (second_indices k Δ.replications))
 
-  same : values g both m terms ≡ tuple other
+  pub same : values g both m terms ≡ tuple other
   same = second_terms other Δ.replications second_stands.indices r.found
 
   second_facts : AreTrue g both m m (all_of_second k Δ.replications Δ.facts)

@@ -17,7 +17,7 @@ use Rattle.cv_meaning.specs.Candidates.{are_assigned, is_assigned}
 use Rattle.cv_meaning.specs.Satisfies.{Satisfies}
 use Rattle.cv_meaning.specs.Serving.{Visit}
 use Rattle.cv_meaning_laws.specs.adequacy.Typed as meaning
-use Rattle.cv_meaning_laws.specs.adequacy.Typed.{IsModel, IsTypedStore}
+use Rattle.cv_meaning_laws.specs.adequacy.Typed.{IsTypedStore}
 use Rattle.cv_meaning_laws.proofs.adequacy.Sorted.{typed_value}
 use Rattle.cv_meaning_runs.specs.Placed.{IsSubtreeOrList, VisitHas}
 use Rattle.cv_scope_rules.specs.Context.{Context, items, known_at}
@@ -38,10 +38,8 @@ use Rattle.cv_derive_facts.specs.Definitions.{IsBehind, behind_at}
 use Rattle.cv_scope_rules.specs.Behind.{in_body, in_condition, sites_of}
 use Rattle.cv_derive_facts.specs.Promises.{BranchesPlaces, BranchesStand, CandidatesStand, IsOwnTerm, PlaceStands, SitesStand, StandsIn, VisitSitesStand}
 use Rattle.cv_scope_rules.specs.Above.{stands_at}
-use Rattle.cv_scene.specs.Derivations.{first_bad_line}
 use Rattle.cv_scene.specs.Scenes.{Scene}
 use Rattle.cv_scene.specs.Terms.{replications_at, replications_by}
-use Rattle.cv_scene.specs.lines.Lines.{lines_of, statements}
 use Rattle.cv_scene.specs.lines.Given.{term_for, or_node, with_given}
 use Rattle.cv_scene.specs.Sights.{Pair, Sight, at_site, cells_by, facts_by, only_site, sight_at, variable_of}
 use Rattle.cv_derive_laws.specs.stores.Reached.{BranchSitesStand, CandidateSitesStand, CellsBetween, HasTypes, PlaceCellsBetween, SiteCellsBetween, SitesStandNow}
@@ -49,13 +47,12 @@ use Rattle.cv_scene.specs.Late.{is_late}
 use Rattle.cv_derive_laws.specs.late.Unassigned.{IsWellVisited, LateAreUnassigned}
 use Rattle.cv_derive_laws.proofs.late.Branches.{AreLate, body_late, branch_phrase, condition_late, find_phrase, first_late, more_phrase, second_late}
 use Rattle.cv_derive_laws.proofs.stores.Sites.{bound_keeps, bound_other}
-use Rattle.cv_derive_laws.specs.stores.Truth.{AreAssigned, AreTrue, IfBeside, IsTrue, WasReached, is_name_of}
+use Rattle.cv_derive_laws.specs.stores.Truth.{AreAssigned, AreTrue, IfBeside, WasReached, is_name_of}
 use Rattle.cv_derive_laws.proofs.Blocks.{derivation_holds}
 use Rattle.cv_derive_laws.proofs.Substitution.{names_of, put_value, put_values}
 use Rattle.cv_derive_laws.specs.reached.Fine.{IsFine, IsFineCell, IsFineTerm, IsNamed}
 use Rattle.cv_derive_laws.specs.stores.Holding.{HoldAt, HoldAtCandidates, HoldAtConditions, HoldAtFind, HoldAtTests, HoldAtVisit, HoldInBodies, HoldInConditions, IsReady}
 use Rattle.cv_derive_laws.proofs.reached.Bound.{IsGood, candidate_typed, find_good, first_good, rest_good}
-use Rattle.cv_derive_laws.proofs.reached.Targets.{ends_hold}
 use Rattle.cv_derive_laws.proofs.reached.Replications.{Each, above, each_above, no_constants, no_variables, same_replications}
 use Rattle.cv_derive_laws.proofs.reached.Walks.{places_fine}
 use Rattle.cv_lists.proofs.Each.{AllByRecursion_append}
@@ -163,10 +160,10 @@ module _ (s : Scene) (i : Interpretation) (ready : IsReady s.declarations s.game
       leaf y (inr (inl e)) f = ap (leaf_value_from g n y) (constant_none y e)
       leaf y (inr (inr e)) f = ap (leaf_value_from g n y) (variable_none y e)
 
-      fact_holds : (t : Tree) → IsFineTerm s.declarations s.game Δ.replications t → value g ix n t ≡ 1 → value g at n (put t) ≡ 1
-      fact_holds t f e =
+      pub term_value : (t : Tree) → IsFineTerm s.declarations s.game Δ.replications t → value g at n (put t) ≡ value g ix n t
+      term_value t f =
           ap (λ xs. value g at n (with_given xs terms t)) (sym names)
-          ∙ (put_value g at n n (IsNamed s.declarations s.game Δ.replications) (Unit {0}) ix terms same leaf (λ b y u. refl) t f ∙ e)
+          ∙ put_value g at n n (IsNamed s.declarations s.game Δ.replications) (Unit {0}) ix terms same leaf (λ b y u. refl) t f
 
       cell_holds : (t : Tree) → IsFineCell s.declarations s.game Δ.replications t → is_assigned g ix m n t ≡ true → is_assigned g at m n (put t) ≡ true
       unfolding with_given
@@ -182,7 +179,7 @@ module _ (s : Scene) (i : Interpretation) (ready : IsReady s.declarations s.game
 
       pub facts_hold : (ts : List Tree) → AllByRecursion (IsFineTerm s.declarations s.game Δ.replications) ts → AllByRecursion (λ t. value g ix n t ≡ 1) ts → AreTrue g at m n (map put ts)
       facts_hold [] f e = tt
-      facts_hold (t ∷ ts) f e = (fact_holds t f.0 e.0, facts_hold ts f.1 e.1)
+      facts_hold (t ∷ ts) f e = (term_value t f.0 ∙ e.0, facts_hold ts f.1 e.1)
 
       pub cells_hold : (ts : List Tree) → AllByRecursion (IsFineCell s.declarations s.game Δ.replications) ts → AllByRecursion (λ t. is_assigned g ix m n t ≡ true) ts → AreAssigned g at m n (map put ts)
       cells_hold [] f e = tt

@@ -1,18 +1,18 @@
 // Certificates with their terms in the pool.
 ghost use Rattle.std.specs.Prelude.{◌≤◌, ℕ, All, IfOk, length};
 ghost use Rattle.cv_pool.specs.PoolView.{Grows};
-ghost use Rattle.cv_step_writer.specs.Certificates.{IsCertificateBelow, IsEntryBelow, IsRouteBelow};
+ghost use Rattle.cv_step_writer.specs.Certificates.{IsCertificateBelow, IsEntryBelow, IsPairBelow, IsRouteBelow};
 ghost use Rattle.cv_step_writer.specs.Derivations.{AreLinesBelow};
 
-use crate::certificates::{Certificate, Entry, Route};
+use crate::certificates::{Certificate, Entry, Pair, Route};
 use crate::proposing::lines::{lines_of, node_of, nodes_of};
 use crate::proposing::shortage::Shortage;
 use cv_closure::{TermId, Terms};
 use cv_closure_lines::Derivation;
 use cv_grounds::plant_terms;
 use cv_step_writer as writer;
-use cv_syntax::Pool;
-use std::alloc::Global;
+use cv_syntax::{NameId, Pool};
+use std::alloc::{AllocError, Global};
 
 /// The lines of a derivation, with its terms in the pool.
 #[tactic(auto, using(crate::proofs::Below::planting))]
@@ -158,6 +158,71 @@ fn plant_entries(
     Ok(list)
 }
 
+/// A pair, with its terms in the pool.
+#[tactic(auto, using(crate::proofs::Below::planting))]
+fn plant_pair(alloc: Global, pool: &mut Pool, pair: &Pair) -> Result<writer::Pair, Shortage>
+    ensures below { IfOk result (λ p. (n : ℕ) → length pool.new.trees ≤ n → IsPairBelow n p) }
+    ensures grows { Grows pool.old pool.new }
+{
+    let by = plant_lines(alloc, pool, &pair.by)?;
+    Ok(writer::Pair {
+        first: u64::from(pair.first),
+        second: u64::from(pair.second),
+        event: pair.event,
+        by,
+    })
+}
+
+/// Pairs, with their terms in the pool.
+#[tactic(auto, using(crate::proofs::Below::planting))]
+fn plant_pairs(
+    alloc: Global,
+    pool: &mut Pool,
+    pairs: &[Pair],
+) -> Result<Vec<writer::Pair>, Shortage>
+    ensures below { IfOk result (λ ps. (n : ℕ) → length pool.new.trees ≤ n
+        → All (IsPairBelow n) ps.items) }
+    ensures grows { Grows pool.old pool.new }
+{
+    let mut list = Vec::new(alloc);
+    for pair in pairs {
+        let next = plant_pair(alloc, pool, pair)?;
+        list.push(next)?;
+    }
+    Ok(list)
+}
+
+/// The names of arrays.
+fn names_of(alloc: Global, arrays: &[u32]) -> Result<Vec<NameId>, AllocError> {
+    let mut names = Vec::new(alloc);
+    for array in arrays {
+        names.push(NameId(*array))?;
+    }
+    Ok(names)
+}
+
+/// A certificate of a correspondence, with its terms in the pool.
+#[tactic(auto, using(crate::proofs::Below::planting))]
+fn plant_events(
+    alloc: Global,
+    pool: &mut Pool,
+    entries: &[Entry],
+    distinct: &[u32],
+    pairs: &[Pair],
+) -> Result<writer::Certificate, Shortage>
+    ensures below { IfOk result (IsCertificateBelow (length pool.new.trees)) }
+    ensures grows { Grows pool.old pool.new }
+{
+    let distinct = names_of(alloc, distinct)?;
+    let entries = plant_entries(alloc, pool, entries)?;
+    let pairs = plant_pairs(alloc, pool, pairs)?;
+    Ok(writer::Certificate::Events {
+        entries,
+        distinct,
+        pairs,
+    })
+}
+
 /// A certificate, with its terms in the pool.
 #[tactic(auto, using(crate::proofs::Below::planting))]
 pub(crate) fn plant_certificate(
@@ -172,13 +237,10 @@ pub(crate) fn plant_certificate(
         Certificate::Secret => Ok(writer::Certificate::Secret {
             pairs: Vec::new(alloc),
         }),
-        Certificate::Events(entries) => {
-            let list = plant_entries(alloc, pool, entries)?;
-            Ok(writer::Certificate::Events {
-                entries: list,
-                distinct: Vec::new(alloc),
-                pairs: Vec::new(alloc),
-            })
-        }
+        Certificate::Events {
+            entries,
+            distinct,
+            pairs,
+        } => plant_events(alloc, pool, entries, distinct, pairs),
     }
 }

@@ -65,6 +65,10 @@ fn reason_of(alloc: Global, nodes: &[NodeId], by: &Reason) -> Result<writer::Rea
             let list = Vec::from_slice(alloc, lines.as_slice())?;
             Ok(writer::Reason::Late(*l, list))
         }
+        Reason::OtherFact(k) => Ok(writer::Reason::OtherFact(*k)),
+        Reason::OtherHere => Ok(writer::Reason::OtherHere),
+        Reason::Same(k) => Ok(writer::Reason::Same(*k)),
+        Reason::Distinct(l, d, e, k) => Ok(writer::Reason::Distinct(*l, *d, *e, *k)),
     }
 }
 

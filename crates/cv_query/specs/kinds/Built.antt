@@ -1,5 +1,4 @@
--- Steps that ask for a certificate that isn't built: of secrecy with pairs, of an injective correspondence or one with alternatives,
--- or with distinct variables. This profile's own.
+-- Steps that ask for a certificate that isn't built: of secrecy with pairs, or of a correspondence with alternatives. This profile's own.
 use Rattle.std.specs.Prelude.{Bool, false, not, List, Option, Some, None}
 use Rattle.std.specs.List.{list_any}
 use Rattle.cv_pool.specs.declared.node.NodeId.{NodeId}

@@ -32,10 +32,10 @@ pub returns-clause-never : goal.returns-clause-never
 unfolding reads_only
 returns-clause-never c = λ a. some_none _ (sym direct_judged.1.1.1.1.1.1.1.1.1.1.1.0 ∙ (c.accepted_exactly_where_nothing_fails.ensures _ _ _ refl).0 a)
 
-pub returns-clause-injective : goal.returns-clause-injective
+pub returns-clause-once : goal.returns-clause-once
 unfolding reads_only
-returns-clause-injective c = refl
+returns-clause-once c = (c.accepted_exactly_where_nothing_fails.ensures _ _ _ refl).1 direct_judged.1.1.1.1.1.1.1.1.1.1.1.1.1.1.1.1.1.0
 
-pub returns-clause-distinct : goal.returns-clause-distinct
+pub returns-clause-unpaired : goal.returns-clause-unpaired
 unfolding reads_only
-returns-clause-distinct c = refl
+returns-clause-unpaired c = λ a. some_none _ (sym direct_judged.1.1.1.1.1.1.1.1.1.1.1.1.1.1.1.1.0 ∙ (c.accepted_exactly_where_nothing_fails.ensures _ _ _ refl).0 a)

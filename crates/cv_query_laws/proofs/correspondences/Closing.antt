@@ -12,7 +12,7 @@ use Rattle.cv_meaning.specs.Interpretation.{Interpretation, Setting, setting_of}
 use Rattle.cv_meaning.specs.Memory.{Happened, Local}
 use Rattle.cv_meaning.specs.Terms.{values_here}
 use Rattle.cv_meaning.specs.Cells.{cells}
-use Rattle.cv_meaning.specs.Chances.{AtMost, zero_chance}
+use Rattle.cv_meaning.specs.Chances.{AtMost, Chance, zero_chance}
 use Rattle.cv_meaning.specs.Advantage.{advantage, chance_of}
 use Rattle.cv_meaning.specs.Correspondences.{Correspondence, atoms_of, broken, correspondence_of, numbered}
 use Rattle.cv_meaning.specs.Experiments.{Breaks, coins_on, holds_on, run, visits_of_run}
@@ -66,23 +66,19 @@ module _ (s : Scene) (q : Correspondence) where
   entry_of p (k ∷ ps) (Node h entry more) a (inl e) = (entry, subst (λ k. IsEntry s q k entry) (sym e) a.0)
   entry_of p (k ∷ ps) (Node h entry more) a (inr i) = entry_of p ps more a.1 i
 
-  place_entry : (p : ℕ) (certificate : Tree) → IsEventsProof s q certificate → IsAmong p (left_places s q) → (entry : Tree) × IsEntry s q p entry
-  place_entry p (Node EventsCertificate parts e) a i = entry_of p (left_places s q) parts a i
+  pub place_entry : (p : ℕ) (certificate : Tree) → IsEventsProof s q certificate → IsAmong p (left_places s q) → (entry : Tree) × IsEntry s q p entry
+  place_entry p (Node EventsCertificate parts e) a i = entry_of p (left_places s q) parts a.entries i
   place_entry p certificate a i = absurd a
 
-not_injective : (query certificate : Tree) → is_correspondence query ≡ true → is_built query certificate ≡ true → (correspondence_of query).inj ≡ false
-not_injective (Node Query bs sides) certificate k e = not-true _ (and_parts (not (correspondence_of (Node Query bs sides)).inj) _ e).0
-not_injective query certificate k e = absurd (both_ways _ refl k)
-
 -- the right side is a list of atoms, its only alternative
-built_list : (query certificate : Tree) → is_correspondence query ≡ true → is_built query certificate ≡ true → has_list query ≡ true
-built_list (Node Query bs sides) certificate k e = (and_parts (has_list (Node Query bs sides)) _ (and_parts (not (correspondence_of (Node Query bs sides)).inj) _ e).1).0
+pub built_list : (query certificate : Tree) → is_correspondence query ≡ true → is_built query certificate ≡ true → has_list query ≡ true
+built_list (Node Query bs sides) certificate k e = e
 built_list query certificate k e = absurd (both_ways _ refl k)
 
-only_alternative : (query : Tree) → has_list query ≡ true → (correspondence_of query).alternatives ≡ numbered 1 (atoms_of (second (second query))) ∷ []
+pub only_alternative : (query : Tree) → has_list query ≡ true → (correspondence_of query).alternatives ≡ numbered 1 (atoms_of (second (second query))) ∷ []
 only_alternative query l = list_only (second (second query)) l
 
-events_proof : (s : Scene) (query certificate : Tree) → is_correspondence query ≡ true → IsProofOf s query certificate → IsEventsProof s (correspondence_of query) certificate
+pub events_proof : (s : Scene) (query certificate : Tree) → is_correspondence query ≡ true → IsProofOf s query certificate → IsEventsProof s (correspondence_of query) certificate
 events_proof s (Node Query bs sides) certificate k p = p
 events_proof s query certificate k p = absurd (both_ways _ refl k)
 
@@ -135,7 +131,7 @@ module _ (s : Scene) (query certificate : Tree) (proved : IsProved s query certi
       AllByRecursion_append (IsFine st.memory.events) (happening_at g v) (happenings g vs) (visit_fine st v (record { holds = a.0; grows = b.0; derives = d.0; types = e.0; tree = f.0 }))
       (visits_fine st vs a.1 b.1 d.1 e.1 f.1)
 
-  module _ (says : (es : List Happened) → (broken g q es ≡ false) ↔ IsKept g q es) (a : Adversary) where
+  module _ (plain : q.inj ≡ false) (says : (es : List Happened) → (broken g q es ≡ false) ↔ IsKept g q es) (a : Adversary) where
     unbroken : (t : Tape) → AllByRecursion (HoldAtVisit s i) (visits_of_run g Events a s.game t) → AllByRecursion (HasTypes s.declarations s.game i) (visits_of_run g Events a s.game t) → broken g q (run g Events a s.game t).memory.events ≡ false
     unfolding run visits_of_run
     unbroken t derives types =
@@ -145,7 +141,7 @@ module _ (s : Scene) (query certificate : Tree) (proved : IsProved s query certi
         let here : AllByRecursion (IsFine st.memory.events) st.memory.events =
         subst (AllByRecursion (IsFine st.memory.events)) (sym (run_happens g Events (a.next (coins_on t 0 a.coins)) t a.moves (start g s.game))) all in
         (says st.memory.events).1
-        (subst (λ b. MatchBool b (HasMatching g q st.memory.events) (AllMet g q st.memory.events)) (sym (not_injective query certificate proved.correspondence proved.accepted.built)) (λ n e k. all_at (IsFine st.memory.events) st.memory.events n e here k.0 k.1))
+        (subst (λ b. MatchBool b (HasMatching g q st.memory.events) (AllMet g q st.memory.events)) (sym plain) (λ n e k. all_at (IsFine st.memory.events) st.memory.events n e here k.0 k.1))
 
     module _ (typed : All (λ t. AllByRecursion (HasTypes s.declarations s.game i) (visits_of_run g Events a s.game t)) (tapes_of (cells g Events a s.game) blank)) where
       pub never_broken : All (λ t. broken g q (run g Events a s.game t).memory.events ≡ false) (tapes_of (cells g Events a s.game) blank)
@@ -166,6 +162,6 @@ module _ (s : Scene) (query certificate : Tree) (proved : IsProved s query certi
           let e : count (cells g Events a s.game) (holds_on g (Breaks query) a s.game) blank ≡ 0 = count_is (cells g Events a s.game) (holds_on g (Breaks query) a s.game) blank ∙ none_counted (holds_on g (Breaks query) a s.game) (tapes_of (cells g Events a s.game) blank) never_broken in
           omega arith
 
-pub as_advantage : (g : Setting) (query : Tree) (a : Adversary) (game : Tree) → is_correspondence query ≡ true → AtMost (chance_of g (Breaks query) a game) zero_chance → AtMost (advantage g query a game) zero_chance
-as_advantage g (Node Query bs sides) a game b e = e
-as_advantage g query a game b e = absurd (both_ways _ refl b)
+pub as_advantage : (g : Setting) (query : Tree) (a : Adversary) (game : Tree) (bound : Chance) → is_correspondence query ≡ true → AtMost (chance_of g (Breaks query) a game) bound → AtMost (advantage g query a game) bound
+as_advantage g (Node Query bs sides) a game bound b e = e
+as_advantage g query a game bound b e = absurd (both_ways _ refl b)

@@ -115,6 +115,15 @@ module _ (g : Setting) (variable : ℕ → Bool) (at : Indices) (m : Store) wher
     all_readable_over (Node Cons a b) f r = let z = and_parts (is_phrase Term a) _ f in (readable_over a z.0 r.0, all_readable_over b z.1 r.1)
     all_readable_over (Node h a b) f r = absurd (both_ways _ refl f)
 
+-- an atom of the only alternative by its number
+pub atom_at : (cs : List (ℕ × Atom)) (k n : ℕ) (c : Atom) → StandsAt cs k (n, c) → StandsAt (atoms_in cs) k c
+atom_at [] k n c s = absurd (no_pair s)
+  where
+    no_pair : ◌≡◌ {A = Option (ℕ × Atom)} None (Some (n, c)) → ⊥
+    no_pair s = cc
+atom_at (d ∷ cs) zero n c s = let same : d ≡ (n, c) = cc in ap (λ (z : ℕ × Atom). Some z.1) same
+atom_at (d ∷ cs) (suc k) n c s = atom_at cs k n c s
+
 -- what holds in a visit of the left event's node
 pub record IsThere (s : Scene) (i : Interpretation) (fine : Game (setting_of s.declarations i) (is_variable s.game) s.game) (p : ℕ) (l : Local) : Type 0 where
   pub above : Context
@@ -340,15 +349,6 @@ module _ (s : Scene) (i : Interpretation) (ready : IsReady s.declarations s.game
         hold = routes_met ws b.0 c.0 E above behind (only_atoms q) routes o c.1 z.claims;
       }
   entry_met_by E above behind entry o z = absurd (both_ways _ refl z.form)
-
-  -- an atom of the only alternative by its number
-  atom_at : (cs : List (ℕ × Atom)) (k n : ℕ) (c : Atom) → StandsAt cs k (n, c) → StandsAt (atoms_in cs) k c
-  atom_at [] k n c s = absurd (no_pair s)
-    where
-      no_pair : ◌≡◌ {A = Option (ℕ × Atom)} None (Some (n, c)) → ⊥
-      no_pair s = cc
-  atom_at (d ∷ cs) zero n c s = let same : d ≡ (n, c) = cc in ap (λ (z : ℕ × Atom). Some z.1) same
-  atom_at (d ∷ cs) (suc k) n c s = atom_at cs k n c s
 
   -- so the event is met by the events that were recorded
   module _ (es : List Happened) (kept : EventsKept l.memory.events es) where

@@ -118,7 +118,7 @@ module _ (s : Scene) (ready : IsReady s.declarations s.game) (i : Interpretation
   abbrev last : State
   last = run g Events a s.game t
 
-  fine : Game g variable s.game
+  pub fine : Game g variable s.game
   fine = well_game s.declarations g s.game refl (game_context s.declarations s.game ready.formed)
 
   all_hold : AllByRecursion (VisitHolds g variable s.game fine) vs
@@ -129,10 +129,10 @@ module _ (s : Scene) (ready : IsReady s.declarations s.game) (i : Interpretation
   unfolding run visits_of_run
   all_grow = (game_holds g variable s.game fine Events (a.next (coins_on t 0 a.coins)) t a.moves).passes.before
 
-  holds_at : (n : ℕ) (v : Visit) → StandsAt vs n v → VisitHolds g variable s.game fine v
+  pub holds_at : (n : ℕ) (v : Visit) → StandsAt vs n v → VisitHolds g variable s.game fine v
   holds_at n v k = AllByRecursion_slice_get (VisitHolds g variable s.game fine) vs all_hold n v k
 
-  grows_at : (n : ℕ) (v : Visit) → StandsAt vs n v → GrowsTo v.before.memory last.memory
+  pub grows_at : (n : ℕ) (v : Visit) → StandsAt vs n v → GrowsTo v.before.memory last.memory
   grows_at n v k = AllByRecursion_slice_get (λ (v : Visit). GrowsTo v.before.memory last.memory) vs all_grow n v k
 
   -- what an event's arguments read is assigned at its visit
@@ -184,7 +184,7 @@ module _ (s : Scene) (ready : IsReady s.declarations s.game) (i : Interpretation
   event_size f b next = refl
 
   -- the visit of the event's node above a visit
-  event_above : (number : ℕ) (v : Visit) → StandsAt vs number v → IsSyntax v.tree → (f n : ℕ) (ms : Tree) → (node : EventNode s.game f ms n v.place) → HasVisitAbove g t vs n (Node (Event f) (arguments_at s.game n) node.next) v.place v.before.indices
+  pub event_above : (number : ℕ) (v : Visit) → StandsAt vs number v → IsSyntax v.tree → (f n : ℕ) (ms : Tree) → (node : EventNode s.game f ms n v.place) → HasVisitAbove g t vs n (Node (Event f) (arguments_at s.game n) node.next) v.place v.before.indices
   event_above number v k w f n ms node =
       let b : Tree = arguments_at s.game n in
       let whole = event_size f b node.next in

@@ -39,4 +39,4 @@ returns-in_default-head c =
     let s = c.args.s.now in
     let trees = trees_of s in
     let node = c.in-Some.node in
-    reason_follows (sight_of s) (assumed_of trees c.args.assumed) (visible_to trees c.args.citing.now) refl (tree_at trees c.args.term) (tree_at trees c.args.reason) node.head (tree_at trees node.first) (tree_at trees node.second) c.follows.result c.in-Some.ensures.node c.follows.ensures c.in_default-head.not-ByFact c.in_default-head.not-BySite c.in_default-head.not-ByEquation c.in_default-head.not-ByCong c.in_default-head.not-ByData c.in_default-head.not-ByGiven c.in_default-head.not-ByLate
+    reason_follows (sight_of s) (assumed_of trees c.args.assumed) (visible_to trees c.args.citing.now) (tree_at trees c.args.term) (tree_at trees c.args.reason) node.head (tree_at trees node.first) (tree_at trees node.second) c.follows.result c.in-Some.ensures.node c.follows.ensures c.in_default-head.not-ByFact c.in_default-head.not-BySite c.in_default-head.not-ByEquation c.in_default-head.not-ByCong c.in_default-head.not-ByData c.in_default-head.not-ByGiven c.in_default-head.not-ByLate c.in_default-head.not-ByOtherFact c.in_default-head.not-BySame c.in_default-head.not-ByDistinct

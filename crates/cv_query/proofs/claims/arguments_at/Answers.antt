@@ -1,6 +1,6 @@
 use Rattle.std.proofs.Common.{◌∙◌}
 use Rattle.cv_syntax.proofs.Trees.{tree_at_None}
-use Rattle.cv_query_entries.specs.Views.{game_of, trees_of}
+use Rattle.cv_query_parts.specs.Views.{game_of, trees_of}
 use Rattle.cv_query.proofs.Naming.{far_away}
 use Rattle.cv_query.proofs.claims.arguments_at.Goals as goal
 

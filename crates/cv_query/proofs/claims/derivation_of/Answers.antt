@@ -1,6 +1,6 @@
 use Rattle.std.proofs.Common.{ap₂, sym, ◌∙◌}
 use Rattle.cv_syntax.proofs.Trees.{tree_at_None}
-use Rattle.cv_query_entries.specs.Said.{atom_seen, way_seen}
+use Rattle.cv_query_parts.specs.Said.{atom_seen, way_seen}
 use Rattle.cv_query.specs.Claimed.{derived_by}
 use Rattle.cv_query.proofs.claims.derivation_of.Goals as goal
 

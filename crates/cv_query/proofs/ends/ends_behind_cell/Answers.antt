@@ -4,7 +4,7 @@ use Rattle.cv_scene.specs.lines.Ends.{is_end}
 use Rattle.cv_scene.specs.lines.Lines.{IsDefined, lines_of, statements}
 use Rattle.cv_query_certificates.specs.EventNodes.{arguments_at, only_site}
 use Rattle.cv_query_entries.specs.ends.Said.{said_equal}
-use Rattle.cv_query_entries.specs.Views.{game_of, trees_of}
+use Rattle.cv_query_parts.specs.Views.{game_of, trees_of}
 use Rattle.cv_query.proofs.Claiming.{behind_part, pending_part}
 use Rattle.cv_query.proofs.ends.ends_behind_cell.Goals as goal
 

@@ -1,8 +1,8 @@
 use Rattle.std.proofs.Common.{ap₂, sym, ◌∙◌}
 use Rattle.cv_query_entries.specs.terms.Given.{put}
 use Rattle.cv_query_entries.specs.terms.Parts.{terms_of}
-use Rattle.cv_query_entries.specs.Said.{atom_seen, way_seen}
-use Rattle.cv_query_entries.specs.Views.{scene_of, trees_of}
+use Rattle.cv_query_parts.specs.Said.{atom_seen, way_seen}
+use Rattle.cv_query_parts.specs.Views.{scene_of, trees_of}
 use Rattle.cv_query.specs.Claimed.{ends_by}
 use Rattle.cv_query.proofs.Claiming.{no_derivation}
 use Rattle.cv_query.proofs.ends.has_end.Goals as goal

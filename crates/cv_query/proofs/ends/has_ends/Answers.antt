@@ -5,8 +5,8 @@ use Rattle.cv_meaning.specs.Correspondences.{atoms_of}
 use Rattle.cv_query_certificates.specs.Claims.{at_place, claims_of}
 use Rattle.cv_query_certificates.specs.Failures.{has_end}
 use Rattle.cv_query_certificates.proofs.Alternatives.{numbered_atoms}
-use Rattle.cv_query_entries.specs.Said.{saying_seen}
-use Rattle.cv_query_entries.specs.Views.{asked_of, scene_of, trees_of}
+use Rattle.cv_query_parts.specs.Said.{saying_seen}
+use Rattle.cv_query_parts.specs.Views.{asked_of, scene_of, trees_of}
 use Rattle.cv_query.proofs.Claiming.{form_many, never_claims, never_end, put_of, with_claims}
 use Rattle.cv_query.proofs.ends.has_ends.Goals as goal
 

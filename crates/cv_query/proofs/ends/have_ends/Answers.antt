@@ -4,8 +4,8 @@ use Rattle.cv_syntax.proofs.Trees.{child_live, empty_at, node_at}
 use Rattle.cv_query_certificates.specs.Failures.{has_end}
 use Rattle.cv_query_entries.specs.terms.Given.{put}
 use Rattle.cv_query_entries.specs.terms.Parts.{terms_of}
-use Rattle.cv_query_entries.specs.Said.{atom_seen, way_seen}
-use Rattle.cv_query_entries.specs.Views.{scene_of, trees_of}
+use Rattle.cv_query_parts.specs.Said.{atom_seen, way_seen}
+use Rattle.cv_query_parts.specs.Views.{scene_of, trees_of}
 use Rattle.cv_query.proofs.Claiming.{bad_claim, end_by, next_claim, no_more_claims, no_more_routes}
 use Rattle.cv_query.proofs.ends.have_ends.Goals as goal
 

@@ -8,7 +8,7 @@ use Rattle.cv_query_certificates.specs.Claims.{claims_of}
 use Rattle.cv_query_certificates.specs.Failures.{has_end}
 use Rattle.cv_query_entries.specs.terms.Given.{put}
 use Rattle.cv_query_entries.specs.terms.Parts.{terms_of}
-use Rattle.cv_query_entries.specs.Views.{scene_of, trees_of}
+use Rattle.cv_query_parts.specs.Views.{scene_of, trees_of}
 use Rattle.cv_query.proofs.ends.have_ends.Given as goal
 
 abbrev pub invariant-atoms : goal.invariant-atoms

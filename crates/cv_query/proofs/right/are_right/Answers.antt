@@ -2,8 +2,8 @@ use Rattle.std.proofs.Common.{length, ◌∙◌}
 use Rattle.cv_syntax.specs.PoolTrees.{tree_at}
 use Rattle.cv_syntax.proofs.Trees.{child_live, empty_at, node_at}
 use Rattle.cv_query_certificates.specs.Failures.{is_right}
-use Rattle.cv_query_entries.specs.Said.{atom_seen, way_seen}
-use Rattle.cv_query_entries.specs.Views.{scene_of, trees_of}
+use Rattle.cv_query_parts.specs.Said.{atom_seen, way_seen}
+use Rattle.cv_query_parts.specs.Views.{scene_of, trees_of}
 use Rattle.cv_query.proofs.Claiming.{bad_claim, next_claim, no_more_claims, no_more_routes, rest_countable, right_by, route_countable}
 use Rattle.cv_query.proofs.right.are_right.Goals as goal
 

@@ -7,8 +7,8 @@ use Rattle.cv_syntax.specs.Walks.{above}
 use Rattle.cv_meaning.specs.Correspondences.{atoms_of}
 use Rattle.cv_query_certificates.specs.Claims.{claims_of}
 use Rattle.cv_query_certificates.specs.Failures.{is_right}
-use Rattle.cv_query_entries.specs.Views.{scene_of, trees_of}
-use Rattle.cv_query.specs.Countable.{AreCountable}
+use Rattle.cv_query_parts.specs.Views.{scene_of, trees_of}
+use Rattle.cv_query_parts.specs.Countable.{AreCountable}
 use Rattle.cv_query.proofs.right.are_right.Given as goal
 
 abbrev pub invariant-atoms : goal.invariant-atoms

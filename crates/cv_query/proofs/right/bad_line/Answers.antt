@@ -4,7 +4,7 @@ use Rattle.cv_syntax_trees.specs.Tree.{Empty}
 use Rattle.cv_syntax.specs.PoolTrees.{tree_at}
 use Rattle.cv_syntax.proofs.Trees.{tree_at_None}
 use Rattle.cv_scene.specs.lines.Lines.{lines_of, statements}
-use Rattle.cv_query_entries.specs.Views.{trees_of}
+use Rattle.cv_query_parts.specs.Views.{trees_of}
 use Rattle.cv_query.proofs.right.bad_line.Goals as goal
 
 none-few : length (statements (lines_of Empty)) < 2 ^ 32

@@ -2,7 +2,7 @@ use Rattle.std.proofs.Common.{◌∙◌}
 use Rattle.cv_syntax.specs.PoolTrees.{tree_at}
 use Rattle.cv_syntax.proofs.Trees.{empty_at}
 use Rattle.cv_query_certificates.specs.Failures.{is_right}
-use Rattle.cv_query_entries.specs.Views.{asked_of, scene_of, trees_of}
+use Rattle.cv_query_parts.specs.Views.{asked_of, scene_of, trees_of}
 use Rattle.cv_query.proofs.Failing.{no_part}
 use Rattle.cv_query.proofs.right.first_wrong.Goals as goal
 

@@ -1,7 +1,7 @@
 use Rattle.std.proofs.Common.{Some, ap, sym, ◌∙◌}
 use Rattle.cv_syntax.proofs.Trees.{empty_at}
 use Rattle.cv_query_certificates.specs.Failures.{secret_failure}
-use Rattle.cv_query_entries.specs.Views.{scene_of, trees_of}
+use Rattle.cv_query_parts.specs.Views.{scene_of, trees_of}
 use Rattle.cv_query.proofs.secrets.secret_checked.Goals as goal
 
 pub returns-in_default : goal.returns-in_default

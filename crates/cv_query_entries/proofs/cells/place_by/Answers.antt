@@ -3,7 +3,7 @@ use Rattle.cv_syntax.specs.Declarations.{declarations}
 use Rattle.cv_syntax.specs.PoolTrees.{tree_at}
 use Rattle.cv_directory.specs.Definitions.{large_in}
 use Rattle.cv_directory.specs.Tables.{entries_in}
-use Rattle.cv_query_entries.specs.Views.{game_of, trees_of}
+use Rattle.cv_query_parts.specs.Views.{game_of, trees_of}
 use Rattle.cv_query_entries.proofs.Sites.{no_place, told_place}
 use Rattle.cv_query_entries.proofs.cells.place_by.Goals as goal
 

@@ -5,7 +5,7 @@ use Rattle.cv_syntax.specs.PoolTrees.{tree_at}
 use Rattle.cv_directory.specs.Definitions.{large_in}
 use Rattle.cv_directory.specs.Tables.{entries_in}
 use Rattle.cv_derive_reasons.specs.cells.Only.{replications_by}
-use Rattle.cv_query_entries.specs.Views.{game_of, trees_of}
+use Rattle.cv_query_parts.specs.Views.{game_of, trees_of}
 use Rattle.cv_query_entries.proofs.Sites.{next_row, no_row, no_rows, row, row_within, told_nothing, told_rows}
 use Rattle.cv_query_entries.proofs.cells.rows_by.Goals as goal
 

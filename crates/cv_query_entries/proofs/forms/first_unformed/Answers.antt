@@ -1,7 +1,7 @@
 use Rattle.std.proofs.Common.{◌∙◌}
 use Rattle.cv_syntax.specs.PoolTrees.{tree_at}
 use Rattle.cv_syntax.proofs.Trees.{empty_at}
-use Rattle.cv_query_entries.specs.Views.{asked_of, scene_of, trees_of}
+use Rattle.cv_query_parts.specs.Views.{asked_of, scene_of, trees_of}
 use Rattle.cv_query_entries.proofs.Formed.{no_entry}
 use Rattle.cv_query_entries.proofs.forms.first_unformed.Goals as goal
 

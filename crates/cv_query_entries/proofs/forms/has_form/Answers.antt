@@ -1,7 +1,7 @@
 use Rattle.std.proofs.Common.{ap, sym, ◌∙◌}
 use Rattle.cv_syntax.specs.PoolTrees.{tree_at}
-use Rattle.cv_query_entries.specs.Said.{saying_seen}
-use Rattle.cv_query_entries.specs.Views.{asked_of, scene_of, trees_of}
+use Rattle.cv_query_parts.specs.Said.{saying_seen}
+use Rattle.cv_query_parts.specs.Views.{asked_of, scene_of, trees_of}
 use Rattle.cv_query_entries.proofs.Formed.{form_of, number_first}
 use Rattle.cv_query_entries.proofs.forms.has_form.Goals as goal
 

@@ -4,7 +4,7 @@ use Rattle.cv_syntax.specs.PoolTrees.{tree_at}
 use Rattle.cv_meaning.specs.Correspondences.{atoms_of}
 use Rattle.cv_query_certificates.specs.Forms.{have_route_forms}
 use Rattle.cv_query_certificates.proofs.Alternatives.{numbered_atoms}
-use Rattle.cv_query_entries.specs.Views.{asked_of, scene_of, trees_of}
+use Rattle.cv_query_parts.specs.Views.{asked_of, scene_of, trees_of}
 use Rattle.cv_query_entries.proofs.Formed.{with_few, with_others, with_routes}
 use Rattle.cv_query_entries.proofs.forms.has_with_form.Goals as goal
 

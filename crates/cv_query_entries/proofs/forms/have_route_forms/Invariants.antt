@@ -4,7 +4,7 @@ use Rattle.cv_syntax.specs.PoolTrees.{tree_at}
 use Rattle.cv_syntax.specs.Walks.{above}
 use Rattle.cv_meaning.specs.Correspondences.{atoms_of}
 use Rattle.cv_query_certificates.specs.Forms.{have_route_forms}
-use Rattle.cv_query_entries.specs.Views.{scene_of, trees_of}
+use Rattle.cv_query_parts.specs.Views.{scene_of, trees_of}
 use Rattle.cv_query_entries.proofs.forms.have_route_forms.Given as goal
 
 abbrev pub invariant-atoms : goal.invariant-atoms

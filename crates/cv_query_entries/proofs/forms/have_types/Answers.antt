@@ -2,7 +2,7 @@ use Rattle.std.proofs.Common.{◌∙◌}
 use Rattle.cv_syntax.specs.PoolTrees.{tree_at}
 use Rattle.cv_syntax.proofs.Trees.{empty_at}
 use Rattle.cv_scene.specs.Sights.{sight_at}
-use Rattle.cv_query_entries.specs.Views.{scene_of, trees_of}
+use Rattle.cv_query_parts.specs.Views.{scene_of, trees_of}
 use Rattle.cv_query_entries.proofs.Formed.{no_witness}
 use Rattle.cv_query_entries.proofs.forms.have_types.Goals as goal
 

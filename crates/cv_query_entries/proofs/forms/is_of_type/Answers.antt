@@ -1,6 +1,6 @@
 use Rattle.std.proofs.Common.{refl}
 use Rattle.cv_scene.specs.Sights.{sight_at}
-use Rattle.cv_query_entries.specs.Views.{scene_of}
+use Rattle.cv_query_parts.specs.Views.{scene_of}
 use Rattle.cv_query_entries.proofs.forms.is_of_type.Goals as goal
 
 pub returns : goal.returns

@@ -5,8 +5,9 @@ use Rattle.cv_scope_rules.specs.typing.Signature.{variable_in}
 use Rattle.cv_scene_view.specs.Kept.{scene_of}
 use Rattle.cv_steps.specs.Costs.{cost_of}
 use Rattle.cv_costs.specs.Collisions.{one_for_pairs}
-use Rattle.cv_rule_birthday.specs.Chosen.{IsChosen, parameters_by}
-use Rattle.cv_rule_birthday.proofs.Copies.{few_parameters}
+use Rattle.cv_costs.specs.Copies.{parameters_by}
+use Rattle.cv_costs.proofs.Copies.{few_parameters}
+use Rattle.cv_rule_birthday.specs.Chosen.{IsChosen}
 use Rattle.cv_rule_birthday.proofs.Planned.{planned}
 use Rattle.cv_rule_birthday.proofs.planning.plan.Goals as goal
 

@@ -19,5 +19,8 @@ decreases-step l = 8 * l.left + 1
 abbrev pub decreases-joined : goal.decreases-joined
 decreases-joined l = 8 * l.left
 
+abbrev pub decreases-explain : goal.decreases-explain
+decreases-explain l = 8 * l.left + 5
+
 abbrev pub decreases-arguments : goal.decreases-arguments
 decreases-arguments l = 8 * l.left + 4

@@ -38,7 +38,7 @@ returns-in-Some-closing_by-clause-pushed c =
     let i = items_of_view pool.trees c.in-Some.items in
     let is : Some i ≡ items_of_step t = ap (option_map (items_of_view pool.trees)) (sym c.in-Some.is) ∙ c.view.ensures.items in
     let closing = closing_tree pool.trees c.in-Some-closing_by.closing in
-    closing_pushed pool c.args.work.now.decls pool.trees c.args.self.now c.close.new.self t c.close.result closing
+    closing_pushed pool c.args.work.now.decls c.close.new.work.pool.trees c.args.self.now c.close.new.self t c.close.result closing
     (by_items t i is closing_of_items (Some closing) (ap (option_map (closing_tree pool.trees)) (sym c.in-Some-closing_by.is) ∙ c.closing_by.ensures.closing pool.trees)) (omega (arith, c.if-self-ge-MOST_STEPS.false)) c.close.ensures.answer
 
 pub returns-in-Some-reducing_by-clause-pushed : goal.returns-in-Some-reducing_by-clause-pushed

@@ -1,0 +1,5 @@
+pub mod Distinguishing
+pub mod Ending
+pub mod Growing
+pub mod Tried
+pub mod Unproved

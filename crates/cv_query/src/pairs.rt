@@ -1,0 +1,11 @@
+// The pairs of an injective correspondence: whether each is derived, and whether the variables whose values are taken to differ are chosen
+// at random from large types.
+
+mod distinct;
+mod ends;
+mod proving;
+mod sights;
+mod testing;
+
+pub(crate) use distinct::first_unfit_name;
+pub(crate) use testing::first_wrong_pair;

@@ -1,0 +1,3 @@
+pub mod Parted
+pub mod Entered
+pub mod Reads

@@ -1,5 +1,0 @@
-use Rattle.cv_query_laws.proofs.secrets.Chances.{holds}
-use Rattle.cv_query_laws.proofs.secrets.unread_choices_change_places_with_tests.Goals as goal
-
-pub returns : goal.returns
-returns c = λ s x formed secret. holds s x formed.phrase secret

@@ -1,0 +1,4 @@
+pub mod Ends
+pub mod Routes
+pub mod Walks
+pub mod Lists

@@ -1,0 +1,10 @@
+mod Exchange
+mod Links
+mod Simulated
+mod Same
+mod Chances
+mod Needed
+mod Truths
+mod Copied
+mod Apart
+mod Within
