@@ -1,9 +1,9 @@
 -- What each answer about bytes comes from.
-use Rattle.std.proofs.Common.{◌≡◌, ℕ, ◌+◌, ◌-◌, ◌<◌, ◌≤◌, min, nat_lt, Bool, true, false, if◌then◌else◌, List, [], ◌∷◌, ◌++◌, append-nil, length, map, refl, ap, sym, ◌∙◌, subst, arith, Option, Some, None, Result, Ok, Err, ◌⊎◌, inl, inr}
+use Rattle.std.proofs.Common.{◌≡◌, ℕ, ◌+◌, ◌-◌, ◌<◌, ◌≤◌, min, nat_lt, Bool, true, false, if◌then◌else◌, List, [], ◌∷◌, ◌++◌, append-nil, length, map, refl, ap, sym, ◌∙◌, subst, arith, Option, Some, None, Result, Ok, Err}
 use Rattle.std.proofs.lemmas.Bool.Decides.{nat_tests}
 use Rattle.std.proofs.lemmas.List.{length-map}
 use Rattle.std.specs.List.{list_all}
-use Rattle.std.specs.Prelude.{IfSome, IsNone, IsSome, IsSomeAnd, option_map}
+use Rattle.std.specs.Prelude.{IfSome, IsNone, IsSome, IsSomeAnd}
 use Rattle.cv_lex.specs.declared.LexError.{LexError}
 use Rattle.cv_lex.specs.Lexis.{Token, tokens_of}
 use Rattle.cv_parse_tables.specs.terminals.Signs.{signs_of}
@@ -11,9 +11,8 @@ use Rattle.cv_script.specs.declared.reader.error.ScriptError.{ScriptError}
 use Rattle.cv_script.specs.reader.Trees.{in_room, tree_read}
 use Rattle.cv_script.proofs.reader.Steps.{read_in_room}
 use Rattle.cv_script_laws.specs.forms.Scripts.{IsSomeScript}
-use Rattle.cv_script_laws.proofs.forms.Refusals.{dead_end}
+use Rattle.cv_script_laws.proofs.forms.Deciding.{refuses}
 use Rattle.cv_parse_notation.specs.Whole.{Dead}
-use Rattle.cv_script.specs.rows.Rows.{built_script_row}
 use Rattle.cv_script.specs.declared.reader.error.ScriptError.TheVariants as script
 use Rattle.cv_parse_notation.specs.declared.sign.Sign.{Sign}
 use Rattle.cv_parse_grammar.specs.Names as names
@@ -47,8 +46,7 @@ use Rattle.cv_meaning.specs.Queries.{queries_in}
 use Rattle.cv_query_form.proofs.First.{finds_first_law as first_refused_is_first}
 use Rattle.cv_accept.specs.declared.error.FileError.{FileError}
 use Rattle.cv_accept.specs.declared.error.FileError.TheVariants as fault
-use Rattle.cv_script.specs.reader.Scripts.{items}
-use Rattle.cv_accept.specs.Accepted.{Content, IsFull, Refuses, asks_unbuilt, block_by, block_of, content_of, group_fault, of_block, of_form, of_groups, of_parsed, of_queries, of_scopes, of_script, of_tokens, of_types, query_fault, read_of, scope_fault, there, type_fault}
+use Rattle.cv_accept.specs.Accepted.{Content, IsFull, Refuses, block_by, block_of, content_of, group_fault, of_block, of_groups, of_parsed, of_queries, of_scopes, of_script, of_tokens, of_types, query_fault, read_of, scope_fault, there, type_fault}
 use Rattle.cv_accept.specs.Places.{nodes_before}
 use Rattle.cv_accept.proofs.Places.{behind_none, behind_some}
 use Rattle.cv_report.specs.declared.report.Cause.TheVariants.{Moves, Stuck}
@@ -57,7 +55,7 @@ use Rattle.cv_report.specs.declared.report.Command.TheVariants as command
 use Rattle.cv_report.specs.declared.report.Report.{Report}
 use Rattle.cv_report.specs.declared.report.Status.TheVariants as status
 use Rattle.cv_syntax.specs.declared.work.File.{File}
-use Rattle.cv.specs.Causes.{ComesFrom, HasAllSteps, HasCertificate, HasGroupFault, HasNoScript, HasOpenQuery, HasQueryFault, HasScopeFault, HasStep, HasStop, HasTypeFault, LeavesOpen, OfTokens, Outside, PassesLimit, block_signs}
+use Rattle.cv.specs.Causes.{ComesFrom, HasAllSteps, HasGroupFault, HasNoScript, HasOpenQuery, HasQueryFault, HasScopeFault, HasStop, HasTypeFault, LeavesOpen, OfTokens, Outside, PassesLimit, block_signs}
 use Rattle.cv.specs.Causes as cause
 use Rattle.cv.specs.Faults.{parse_ended, status_of as ended_by}
 use Rattle.cv.specs.Words.{AreTold}
@@ -86,9 +84,8 @@ rank (fault.Types e) = 3
 rank (fault.Scope e) = 4
 rank (fault.Group k e) = 5
 rank (fault.Query k) = 6
-rank fault.Unbuilt = 7
-rank fault.OutOfMemory = 8
-rank (fault.Room need) = 9
+rank fault.OutOfMemory = 7
+rank (fault.Room need) = 8
 
 module _ (c : Content) (p : Parsed) where
   queries_rank : (o : Option ℕ) (x : FileError) → of_queries c o ≡ Err x → 6 ≤ rank x
@@ -137,10 +134,6 @@ module _ (c : Content) (p : Parsed) where
   by_queries None k e = absurd (cc)
   by_queries (Some j) k e = let s : j ≡ k = cc in ap (λ n. let o : Option ℕ = Some n in o) s
 
-  queries_are_built : (o : Option ℕ) → of_queries c o ≡ Err fault.Unbuilt → ⊥
-  queries_are_built None e = cc
-  queries_are_built (Some k) e = cc
-
 -- proof blocks
 
 -- through a token at which a block is refused goes no script
@@ -154,47 +147,29 @@ dead_block ts k None e = absurd (cc)
 dead_block ts k (Some range) e =
     let first = min range.0 range.1 in
     let signs = block_signs ts range in
-    let h = no_script k (tree_read built_script_row (signs_of ts).names ts first range.1) e in
-    (range, refl, dead_end 0 0 first signs k (read_in_room built_script_row 0 0 first signs ∙ ap (in_room 0 0) h))
+    let h = no_script k (tree_read (signs_of ts).names ts first range.1) e in
+    (range, refl, refuses 0 0 first signs k (script.Script k) refl (read_in_room 0 0 first signs ∙ ap (in_room 0 0) h))
 
 block_rank : (e : ScriptError) → 2 ≤ rank (of_block e)
 block_rank (script.Script k) = omega arith
-block_rank (script.Unbuilt k) = omega arith
 block_rank (script.Build b) = omega arith
 
--- a block with a certificate that isn't built, and one without
-
-form_rank : (ts : List Token) (p : Parsed) (b : Option Tree) (u : Bool) (x : FileError) → of_form ts p b u ≡ Err x → 3 ≤ rank x
-form_rank ts p b true x e = let s : fault.Unbuilt ≡ x = cc in subst (λ z. 3 ≤ rank z) s (omega arith)
-form_rank ts p b false x e = types_rank (content_of ts p b) p (type_fault p) x e
-
-past_form : (ts : List Token) (p : Parsed) (b : Option Tree) (u : Bool) (x : FileError) → rank x ≤ 6 → of_form ts p b u ≡ Err x → of_types (content_of ts p b) p (type_fault p) ≡ Err x
-past_form ts p b true x m e = absurd (let s : fault.Unbuilt ≡ x = cc in let i = subst (λ z. 7 ≤ rank z) s (omega arith) in omega arith)
-past_form ts p b false x m e = e
-
 script_rank : (ts : List Token) (p : Parsed) (r : Result (Option Tree) ScriptError) (x : FileError) → of_script ts p r ≡ Err x → 2 ≤ rank x
-script_rank ts p (Ok b) x e = let r = form_rank ts p b (asks_unbuilt p.declarations (option_map items b)) x e in omega arith
+script_rank ts p (Ok b) x e = let r = types_rank (content_of ts p b) p (type_fault p) x e in omega arith
 script_rank ts p (Err y) x e = let s : of_block y ≡ x = cc in subst (λ z. 2 ≤ rank z) s (block_rank y)
 
 -- the fault of a block is neither of types, of scope nor of queries
 block_only : (y : ScriptError) (x : FileError) → 3 ≤ rank x → rank x ≤ 6 → of_block y ≡ x → ⊥
 block_only (script.Script k) x l m e = let i = subst (λ y. rank y ≤ 2) e (omega arith) in omega arith
-block_only (script.Unbuilt k) x l m e = let i = subst (λ y. 7 ≤ rank y) e (omega arith) in omega arith
 block_only (script.Build b) x l m e = let i = subst (λ y. 7 ≤ rank y) e (omega arith) in omega arith
 
 past_script : (ts : List Token) (p : Parsed) (r : Result (Option Tree) ScriptError) (x : FileError) → 3 ≤ rank x → rank x ≤ 6 → of_script ts p r ≡ Err x → (block : Option Tree) × (r ≡ Ok block) × (of_types (content_of ts p block) p (type_fault p) ≡ Err x)
-past_script ts p (Ok b) x l m e = (b, refl, past_form ts p b (asks_unbuilt p.declarations (option_map items b)) x m e)
+past_script ts p (Ok b) x l m e = (b, refl, e)
 past_script ts p (Err y) x l m e = absurd (block_only y x l m (cc))
 
 by_script : (y : ScriptError) (k : ℕ) → of_block y ≡ fault.Script k → y ≡ script.Script k
 by_script (script.Script j) k e = cc
-by_script (script.Unbuilt j) k e = absurd (cc)
 by_script (script.Build b) k e = absurd (cc)
-
-by_unbuilt : (y : ScriptError) → of_block y ≡ fault.Unbuilt → (token : ℕ) × (y ≡ script.Unbuilt token)
-by_unbuilt (script.Script j) e = absurd (cc)
-by_unbuilt (script.Unbuilt j) e = (j, refl)
-by_unbuilt (script.Build b) e = absurd (cc)
 
 by_parsed : (ts : List Token) (r : Result Parsed ParseError) (x : ParseError) → of_parsed ts r ≡ Err (fault.Parse x) → r ≡ Err x
 by_parsed ts (Ok p) x e = absurd (let r = script_rank ts p (block_of ts p) (fault.Parse x) e in omega arith)
@@ -285,7 +260,7 @@ module _ (ts : List Token) (p : Parsed) (e : parsed most_pool (signs_of ts).sign
   script_cause k i = go (block_of ts p) refl i
     where
       go : (r : Result (Option Tree) ScriptError) → block_of ts p ≡ r → of_script ts p r ≡ Err (fault.Script k) → HasNoScript ts k
-      go (Ok b) n j = absurd (let r = form_rank ts p b (asks_unbuilt p.declarations (option_map items b)) (fault.Script k) j in omega arith)
+      go (Ok b) n j = absurd (let r = types_rank (content_of ts p b) p (type_fault p) (fault.Script k) j in omega arith)
       go (Err y) n j = let b = dead_block ts k p.script (n ∙ ap Err (by_script y k (cc))) in record {
         said = p;
         says = said_is_saying most_pool (signs_of ts).signs p e;
@@ -294,29 +269,6 @@ module _ (ts : List Token) (p : Parsed) (e : parsed most_pool (signs_of ts).sign
         there = b.1;
         dead = b.2;
       }
-
-  form_cause : (b : Option Tree) (u : Bool) → of_form ts p b u ≡ Err fault.Unbuilt → u ≡ true
-  form_cause b true j = refl
-  form_cause b false j =
-      let t = past_types (content_of ts p b) p (type_fault p) fault.Unbuilt (omega arith) j in
-      let u = past_scopes (content_of ts p b) p (scope_fault p) fault.Unbuilt (omega arith) t.1 in
-      let v = past_groups (content_of ts p b) p (group_fault p) fault.Unbuilt (omega arith) u.1 in
-      absurd (queries_are_built (content_of ts p b) p (query_fault p) v.1)
-
-  unbuilt_cause : of_script ts p (block_of ts p) ≡ Err fault.Unbuilt → HasStep ts ⊎ HasCertificate ts
-  unbuilt_cause i = go (block_of ts p) refl i
-    where
-      go : (r : Result (Option Tree) ScriptError) → block_of ts p ≡ r → of_script ts p r ≡ Err fault.Unbuilt → HasStep ts ⊎ HasCertificate ts
-      go (Ok b) n j = inr (record {
-        said = p;
-        says = said_is_saying most_pool (signs_of ts).signs p e;
-        script = b;
-        block = n;
-        unbuilt = form_cause b (asks_unbuilt p.declarations (option_map items b)) j;
-      })
-      go (Err y) n j =
-          let f = by_unbuilt y (cc) in
-          inl (record { said = p; says = said_is_saying most_pool (signs_of ts).signs p e; token = f.0; refused = n ∙ ap Err f.1 })
 
 -- a refusal of what tokens say comes from the tokens of the bytes
 
@@ -386,7 +338,6 @@ refusal_cause o r bytes a none x e = go x e
     go (fault.Group k x) e = cause.group (in_told _ (refused_later bytes (fault.Group k x) (λ ts. HasGroupFault ts k x) (omega arith) (λ ts p i j. group_cause ts p i k x j) e))
     go (fault.Query k) e = cause.query (in_told _ (refused_later bytes (fault.Query k) (λ ts. HasQueryFault ts k) (omega arith) (λ ts p i j. query_cause ts p i k j) e))
     go (fault.Room need) e = cause.script_room (subst (λ (f : Option File). IsNone f) (sym none) refl) (in_told (λ bs. IsFull most_pool bs need) e)
-    go fault.Unbuilt e = cause.unbuilt (in_told _ (refused_later bytes fault.Unbuilt (λ ts. HasStep ts ⊎ HasCertificate ts) (omega arith) (λ ts p i j. unbuilt_cause ts p i j) e))
     go fault.OutOfMemory e = cause.memory
 
 -- as many steps were taken as are told

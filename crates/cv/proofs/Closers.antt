@@ -1,21 +1,19 @@
 -- The step that closes a query first, and what is known of it.
-use Rattle.std.proofs.Common.{◌≡◌, ℕ, zero, suc, ◌+◌, Bool, true, false, not, ◌||◌, ◌==◌, if◌then◌else◌, List, [], ◌∷◌, ◌++◌, map, take, refl, ap, sym, ◌∙◌, subst, arith, Option, Some, None, option_and_then}
+use Rattle.std.proofs.Common.{◌≡◌, ℕ, zero, suc, ◌+◌, Bool, true, false, ◌==◌, if◌then◌else◌, List, [], ◌∷◌, ◌++◌, take, refl, ap, ◌∙◌, subst, arith, Option, Some, None}
 use Rattle.std.specs.Prelude.{Contains, slice_get}
-use Rattle.std.specs.List.{AllByRecursion, list_any}
+use Rattle.std.specs.List.{AllByRecursion}
 use Rattle.std.proofs.lemmas.Bool.Decides.{nat_tests}
 use Rattle.cv_syntax_trees.specs.Tree.{Tree}
 use Rattle.cv_bound.specs.declared.terms.Term.{Term}
 use Rattle.cv_report.specs.declared.report.Verdict.TheVariants.{Proved}
-use Rattle.cv_script.specs.Views.{StepItems, items_of_step}
 use Rattle.cv_script.specs.Views as items
 use Rattle.cv_sequences.specs.Chains.{Link}
 use Rattle.cv_bound.specs.costs.Sums.{sum_for, with_cost}
 use Rattle.cv_bound.specs.declared.costs.sums.Sums.{Sums}
-use Rattle.cv_kernel.specs.Closings.{Closing, closing_in, closing_of_items, is_of_secrecy}
+use Rattle.cv_kernel.specs.Closings.{Closing, closing_in, is_of_secrecy}
 use Rattle.cv_kernel.specs.Proofs.{Transition, sum_at, sum_from, sums_behind}
 use Rattle.cv_report.specs.verdicts.Verdicts.{verdict_by, verdicts_by}
 use Rattle.cv_follow.specs.Walks.{sums_along}
-use Rattle.std.proofs.lemmas.Bool.{or_parts}
 
 -- the step that closes a query first, and its sum
 
@@ -45,34 +43,6 @@ first_closing sums (t ∷ ts) k s e =
     later : Closes (sums_behind sums (closing_in t.step) t.cost) ts k s → Closes sums (t ∷ ts) k s
     later c = record { place = suc c.place; here = c.here; there = c.there; closing = c.closing; closes = c.closes; number = c.number; up_to = c.up_to }
 
--- a step that closes a query, by its items
-pub closing_items : (o : Option StepItems) (c : Closing) → option_and_then closing_of_items o ≡ Some c → o ≡ Some (items.Success c.query c.certificate)
-closing_items None c e = absurd (cc)
-closing_items (Some (items.Rename x to)) c e = absurd (cc)
-closing_items (Some (items.Rewrite p m by)) c e = absurd (cc)
-closing_items (Some (items.Prune p part by)) c e = absurd (cc)
-closing_items (Some (items.Pick p ms d f)) c e = absurd (cc)
-closing_items (Some (items.Merge p)) c e = absurd (cc)
-closing_items (Some (items.Split p m)) c e = absurd (cc)
-closing_items (Some (items.Let p x T m)) c e = absurd (cc)
-closing_items (Some (items.Unlet x)) c e = absurd (cc)
-closing_items (Some (items.New p x T)) c e = absurd (cc)
-closing_items (Some (items.Unnew x)) c e = absurd (cc)
-closing_items (Some (items.Move p)) c e = absurd (cc)
-closing_items (Some (items.ArrayRename x to)) c e = absurd (cc)
-closing_items (Some (items.Codef p add to from above)) c e = absurd (cc)
-closing_items (Some (items.Birthday x at)) c e = absurd (cc)
-closing_items (Some (items.Guess x at)) c e = absurd (cc)
-closing_items (Some (items.Fresh p)) c e = absurd (cc)
-closing_items (Some (items.Crypto e x)) c f = absurd (cc)
-closing_items (Some (items.Success k by)) c e = let f : record { query = k; certificate = by } ≡ c = cc in ap (λ (d : Closing). Some (items.Success d.query d.certificate)) f
-closing_items (Some items.Simplify) c e = absurd (cc)
-
-pub none_fails : (p : Tree → Bool) (ts : List Transition) (left : List Tree) (n : ℕ) (t : Transition) → list_any p (map (λ x. x.step) ts ++ left) ≡ false → slice_get ts n ≡ Some t → p t.step ≡ false
-none_fails p [] left n t e i = absurd (cc)
-none_fails p (x ∷ ts) left zero t e i = let f : x ≡ t = cc in ap (λ y. p y.step) (sym f) ∙ (or_parts (p x.step) (list_any p (map (λ y. y.step) ts ++ left)) e).0
-none_fails p (x ∷ ts) left (suc n) t e i = none_fails p ts left n t (or_parts (p x.step) (list_any p (map (λ y. y.step) ts ++ left)) e).1 i
-
 -- a verdict says what the sum of its query is
 verdict_is : (o : Option (List Term)) (s : List Term) → verdict_by o ≡ Proved s → o ≡ Some s
 verdict_is None s e = absurd (cc)
@@ -82,10 +52,6 @@ pub verdict_at : (f : ℕ → Option (List Term)) (k : ℕ) (qs : List Tree) (j 
 verdict_at f k [] j s e = absurd (cc)
 verdict_at f k (q ∷ qs) zero s e = (let n : k + 0 ≡ k = omega arith in ap f n) ∙ verdict_is (f k) s (cc)
 verdict_at f k (q ∷ qs) (suc j) s e = (let n : k + suc j ≡ suc k + j = omega arith in ap f n) ∙ verdict_at f (suc k) qs j s e
-
-pub is_false : (b : Bool) → not b ≡ false → b ≡ true
-is_false true e = refl
-is_false false e = absurd (cc)
 
 pub closed_at : (P : Tree → Type 0) (qs : List Tree) → AllByRecursion P qs → (j : ℕ) (q : Tree) → slice_get qs j ≡ Some q → P q
 closed_at P [] h j q e = absurd (cc)

@@ -54,7 +54,6 @@ shown_may (status.Limit (Nodes n)) h = tt
 shown_may (status.Limit (Depth n)) h = tt
 shown_may (status.Limit Steps) h = tt
 shown_may (status.Limit (Pool n)) h = tt
-shown_may status.Unbuilt h = h
 
 pub may_under : (c : Command) (s : Status) → MayHaveFile s → MayHaveFile (ends_under c s)
 may_under command.Games s h = shown_may s h
@@ -83,7 +82,6 @@ shown_speaks (status.Limit (Nodes n)) h = inr tt
 shown_speaks (status.Limit (Depth n)) h = inr tt
 shown_speaks (status.Limit Steps) h = inr tt
 shown_speaks (status.Limit (Pool n)) h = inr tt
-shown_speaks status.Unbuilt h = inr tt
 
 pub speaks_under : (c : Command) (s : Status) → SpeaksOfFile s → Speaks (ends_under c s)
 speaks_under command.Games s h = shown_speaks s h

@@ -1,12 +1,11 @@
 -- What steps cost that close queries: it is a number, and a sum with it is no less.
-use Rattle.std.proofs.Common.{◌≡◌, ℕ, zero, suc, ◌+◌, ◌*◌, Bool, true, false, if◌then◌else◌, List, refl, ap, sym, ◌∙◌, arith, mul-pos, mul-le-mul_right, Option, Some, None}
+use Rattle.std.proofs.Common.{◌≡◌, ℕ, zero, suc, Bool, true, false, if◌then◌else◌, List, refl, arith, mul-pos, mul-le-mul_right, Option, Some, None}
 use Rattle.std.specs.Prelude.{◌↔◌}
 use Rattle.std.specs.List.{AllByRecursion}
-use Rattle.cv_syntax_trees.specs.declared.head.Head.TheVariants.{Query, Secret, SecretCertificate, SecretOnce}
+use Rattle.cv_syntax_trees.specs.declared.head.Head.TheVariants.{Query, Secret, SecretOnce}
 use Rattle.cv_syntax_trees.specs.Declarations.{Declaration}
 use Rattle.cv_syntax_trees.specs.Tree.{Tree, Empty, Node}
 use Rattle.cv_meaning.specs.Chances.{AtMost, Chance, Same}
-use Rattle.cv_meaning.specs.Correspondences.{correspondence_of}
 use Rattle.cv_meaning.specs.Interpretation.{Interpretation}
 use Rattle.cv_meaning.specs.Queries.{queries_in}
 use Rattle.cv_meaning.specs.Satisfies.{Satisfies}
@@ -25,9 +24,8 @@ use Rattle.cv_derive_laws.specs.stores.Holding.{IsReady}
 use Rattle.cv_scene.specs.Scenes.{Scene}
 use Rattle.cv_scene.specs.Sights.{from_one}
 use Rattle.cv_query_form.specs.Rules.{AreAsked, MayBeAsked}
-use Rattle.cv_query_certificates.specs.Accepted.{IsAccepted, gives_no_pair, is_built}
-use Rattle.cv_query_certificates.specs.Alternatives.{has_list}
-use Rattle.cv_query_certificates.specs.Failures.{Failure, certificate_failure, certificate_refused, first_failure, secret_failure}
+use Rattle.cv_query_certificates.specs.Accepted.{IsAccepted, is_query}
+use Rattle.cv_query_certificates.specs.Failures.{Failure, first_failure}
 use Rattle.cv_sequences.proofs.secrets.Alike.{bounded_alike, left_positive}
 use Rattle.cv_sequences.proofs.secrets.Sums.{added_alike}
 use Rattle.cv_sequences.proofs.secrets.Tapes.{tapes_were_had}
@@ -38,32 +36,21 @@ use Rattle.cv.proofs.Closers.{closed_at}
 -- what laws say of certificates
 
 abbrev pub AreDecided : Type 0
-AreDecided = (s : Scene) (query certificate : Tree) → is_built query certificate ≡ true → IsAccepted s query certificate ↔ (first_failure s (Some query) certificate ≡ None)
+AreDecided = (s : Scene) (query certificate : Tree) → is_query query ≡ true → IsAccepted s query certificate ↔ (first_failure s (Some query) certificate ≡ None)
 
 abbrev pub AreNumbers : Type 0
 AreNumbers = (s : Scene) (query certificate : Tree) → IsReady s.declarations s.game → IsAccepted s query certificate → (i : Interpretation) → Satisfies s.declarations i → HasTapes (bound_of i (cost_of_certificate s certificate))
 
--- a certificate in which nothing fails is built
+-- what may be asked is a query
 
-of_list : (b : Bool) (o refused : Option Failure) → (refused ≡ None → ⊥) → (if b then o else refused) ≡ None → b ≡ true
-of_list true o refused f n = refl
-of_list false o refused f n = absurd (f n)
-
-no_pair : (once : Bool) (s : Scene) (x : ℕ) (certificate : Tree) → secret_failure once s x certificate ≡ None → gives_no_pair certificate ≡ true
-no_pair once s x (Node SecretCertificate Empty e) n = refl
-no_pair once s x (Node SecretCertificate (Node h part more) e) n = absurd (cc)
-no_pair once s x certificate n = absurd (cc)
-
-pub built_of : (s : Scene) (game query certificate : Tree) → MayBeAsked game query → first_failure s (Some query) certificate ≡ None → is_built query certificate ≡ true
+pub asked_query : (game query : Tree) → MayBeAsked game query → is_query query ≡ true
 unfolding MayBeAsked
-built_of s game (Node Query bs sides) certificate may n =
-    let q : Tree = Node Query bs sides in
-    of_list (has_list q) (certificate_failure s (correspondence_of q) certificate) (certificate_refused s (correspondence_of q)) (λ e. (cc)) n
-built_of s game (Node (Secret x) Empty Empty) certificate may n = no_pair false s x certificate n
-built_of s game (Node (SecretOnce x) Empty Empty) certificate may n = no_pair true s x certificate n
-built_of s game query certificate may n = absurd may
+asked_query game (Node Query bs sides) may = refl
+asked_query game (Node (Secret x) Empty Empty) may = refl
+asked_query game (Node (SecretOnce x) Empty Empty) may = refl
+asked_query game query may = absurd may
 
--- so what it costs is a number
+-- what a certificate costs in which nothing fails is a number
 
 abbrev pub HaveTapedClosings : List Declaration → (own : ℕ) → Type 0
 HaveTapedClosings ds own =
@@ -85,7 +72,7 @@ module _ (ds : List Declaration) (own : ℕ) (first : Tree) (asked : AreAsked fi
   taped_by game ready k certificate i sat (Some query) e n =
       let s : Scene = scene ds (known_to own) game in
       let may = asked_at (MayBeAsked first) (queries_in ds) asked k query e in
-      numbers s query certificate ready ((decided s query certificate (built_of s first query certificate may n)).1 n) i sat
+      numbers s query certificate ready ((decided s query certificate (asked_query first query may)).1 n) i sat
 
   pub closings_taped : HaveTapedClosings ds own
   closings_taped game ready ks c passes i sat =

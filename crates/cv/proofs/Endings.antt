@@ -120,7 +120,6 @@ judged_well c (status.Open cause) bytes g j e = inl (e j)
 judged_well c status.Words bytes g j e = inl (e j)
 judged_well c status.Read bytes g j e = inl (e j)
 judged_well c status.Write bytes g j e = inl (e j)
-judged_well c status.Unbuilt bytes g j e = inl (e j)
 
 pub ends_well : (c : Command) (s r : Status) (bytes : List ℕ) → IsComplete c bytes r → IsGood bytes → (s ≡ r) ⊎ (s ≡ status.Write) → s ≢ status.Write → EndsWell c s
 ends_well c s r bytes k g (inl e) n = subst (EndsWell c) (sym e) (judged_well c r bytes g (k.short g.short) (good_proved c r bytes g))
@@ -194,7 +193,6 @@ refusal_speaks (fault.Scope x) = inr tt
 refusal_speaks (fault.Group k x) = inr tt
 refusal_speaks (fault.Query k) = inr tt
 refusal_speaks (fault.Room need) = inr tt
-refusal_speaks fault.Unbuilt = inr tt
 refusal_speaks fault.OutOfMemory = inl refl
 
 -- of two kinds of statuses, the second speaks
@@ -221,7 +219,6 @@ judged_speaks c (status.Limit (Nodes n)) bytes j = expected_speaks c (status.Lim
 judged_speaks c (status.Limit (Depth n)) bytes j = expected_speaks c (status.Limit (Depth n)) (read_of most_pool bytes) j
 judged_speaks c (status.Limit Steps) bytes j = expected_speaks c (status.Limit Steps) (read_of most_pool bytes) j
 judged_speaks c (status.Limit File) bytes j = expected_speaks c (status.Limit File) (read_of most_pool bytes) j
-judged_speaks c status.Unbuilt bytes j = expected_speaks c status.Unbuilt (read_of most_pool bytes) j
 
 -- neither Words nor Write
 pub speaks_never : (s : Status) → (s ≡ status.Memory) ⊎ Speaks s → (s ≢ status.Words) × (s ≢ status.Write)
@@ -294,7 +291,6 @@ refusal_has_none (fault.Scope x) h = h
 refusal_has_none (fault.Group k x) h = h
 refusal_has_none (fault.Query k) h = h
 refusal_has_none (fault.Room need) h = h
-refusal_has_none fault.Unbuilt h = h
 refusal_has_none fault.OutOfMemory h = h
 
 refusal_not_done : (x : FileError) → ended_by x ≡ status.Done → ⊥
@@ -313,7 +309,6 @@ refusal_not_done (fault.Scope x) e = (cc)
 refusal_not_done (fault.Group k x) e = (cc)
 refusal_not_done (fault.Query k) e = (cc)
 refusal_not_done (fault.Room need) e = (cc)
-refusal_not_done fault.Unbuilt e = (cc)
 refusal_not_done fault.OutOfMemory e = (cc)
 
 pub refusal_answers : (told : Option (List ℕ)) (r : Report) (bytes : List ℕ) (x : FileError) → AreTold told bytes → Refuses most_pool bytes x → r.status ≡ ended_by x → r.file ≡ None → SaysNothing r → Answers told r

@@ -1,12 +1,11 @@
 -- A query that a proof closes holds up to its sum.
-use Rattle.std.proofs.Common.{◌≡◌, ℕ, suc, ◌+◌, ◌≤◌, append-nil, Bool, true, false, if◌then◌else◌, List, [], length, map, drop, take, refl, ap, ap₂, sym, ◌∙◌, subst, arith, mul-pos, Option, Some, None, Ok, inl, inr}
+use Rattle.std.proofs.Common.{◌≡◌, ℕ, suc, ◌+◌, ◌≤◌, Bool, true, false, if◌then◌else◌, List, [], length, drop, take, refl, ap, ap₂, sym, ◌∙◌, subst, arith, mul-pos, Option, Some, None, Ok}
 use Rattle.std.specs.Prelude.{Contains, slice_get}
-use Rattle.std.specs.List.{list_any}
 use Rattle.std.proofs.lemmas.Bool.{both_ways}
 use Rattle.std.proofs.lemmas.List.{take-append-drop}
 use Rattle.cv_syntax_trees.specs.declared.head.Head.TheVariants.{EventsCertificate, Query, Secret, SecretCertificate, SecretOnce}
 use Rattle.cv_syntax_trees.specs.Declarations.{Declaration}
-use Rattle.cv_syntax_trees.specs.Tree.{Tree, Empty, Node}
+use Rattle.cv_syntax_trees.specs.Tree.{Tree, Empty, Node, lone}
 use Rattle.cv_bound.specs.declared.terms.Term.{Term}
 use Rattle.cv_bound.specs.Sums.{added}
 use Rattle.cv_steps.specs.values.Values.{cost_value, sum_value}
@@ -22,10 +21,9 @@ use Rattle.cv_meaning.specs.Runs.{Adversary, Random, Real}
 use Rattle.cv_meaning.specs.Satisfies.{Satisfies}
 use Rattle.cv_meaning_chances.specs.Fractions.{HasTapes}
 use Rattle.cv_meaning.specs.Queries.{queries_in}
-use Rattle.cv_query.specs.kinds.Built.{asks_unbuilt, has_unbuilt, is_unbuilt_step, lacks_form}
-use Rattle.cv_query_certificates.specs.Accepted.{IsAccepted, IsEventsProof, IsSecretProof, is_built}
+use Rattle.cv_query_certificates.specs.Accepted.{IsAccepted, IsEventsProof, IsSecretProof}
 use Rattle.cv_query_certificates.specs.Failures.{first_failure}
-use Rattle.cv_accept.specs.Accepted.{Content, asks_unbuilt as file_unbuilt, read_of, most_bytes}
+use Rattle.cv_accept.specs.Accepted.{Content, read_of, most_bytes}
 use Rattle.cv_parse.proofs.Exactness.{says_is_said}
 use Rattle.cv_parse_sorts.proofs.queries.Closed.{queries_closed}
 use Rattle.cv_parse_tables.specs.terminals.Signs.{signs_of}
@@ -36,7 +34,6 @@ use Rattle.cv_query.specs.kinds.Closed.{HasClosedQueries, IsClosedQuery}
 use Rattle.cv_query_laws.specs.correspondences.Premises.{IsProved}
 use Rattle.cv_scene.specs.Scenes.{Scene}
 use Rattle.cv_scene.specs.Sights.{from_one}
-use Rattle.cv_script.specs.Views.{items_of_step}
 use Rattle.cv_derive_laws.specs.stores.Holding.{IsReady}
 use Rattle.cv_derive_laws.specs.stores.Soundness.{DerivationsHold, DerivedBodiesAreUnreached}
 use Rattle.cv_steps.specs.Sequences.{scene}
@@ -50,26 +47,23 @@ use Rattle.cv_bound.specs.declared.terms.Experiment.TheVariants as term
 use Rattle.cv_bound.specs.costs.Sums.{no_sums, sum_for, with_cost}
 use Rattle.cv_sequences.proofs.secrets.Sums.{plain}
 use Rattle.cv_sequences.proofs.secrets.Secrets.{carried as carried_secret, taped as taped_secret, valued}
-use Rattle.cv_query_certificates.specs.Secrets.{AreUnreadChoices, AreUnreadCopies, IsSecret}
 use Rattle.cv_meaning.specs.Correspondences.{Correspondence, correspondence_of}
-use Rattle.cv_scope_rules.specs.Phrases.{IsWellFormed}
 use Rattle.cv_query_form.specs.Rules.{AreAsked, MayBeAsked}
 use Rattle.cv_accept.proofs.Readings.{accepted}
-use Rattle.cv.proofs.Closers.{Closes, closed_at, closing_items, contains_at, first_closing, is_false, none_fails, verdict_at}
+use Rattle.cv.proofs.Closers.{Closes, closed_at, contains_at, first_closing, verdict_at}
 use Rattle.cv_bound.specs.closings.Queries.{is_among}
 use Rattle.cv_kernel.specs.Closings.{Closing, closing_failure, closing_in, is_secret}
 use Rattle.cv_kernel.specs.Proofs.{IsProof, IsTransition, Transition, closed_by, sum_of}
 use Rattle.cv.specs.Contexts.{contexts_in}
 use Rattle.cv.specs.Runs.{IsBounded, IsSoundFor}
 use Rattle.cv_follow.specs.Scripts.{known_to}
-use Rattle.cv_follow.proofs.Fillings.{stands_built}
-use Rattle.cv.specs.Strategy.{FollowsScript, FollowsStrategy, Proceeds, ProceedsWithout, TakesSteps, declared_in, file_in, game_in, is_games, nodes_in, steps_in}
+use Rattle.cv.specs.Strategy.{Proceeds, ProceedsWithout, TakesSteps, declared_in, file_in, game_in, is_games, steps_in}
 use Rattle.cv.proofs.OpenQueries.{none_proved}
 use Rattle.cv.specs.Values.{Contexts, advantage_of, advantages_of, context_of, is_once, secret_of, value_of}
 use Rattle.cv_follow.specs.Walks.{sums_along}
 use Rattle.cv_follow.proofs.Closings.{nothing_more}
 use Rattle.cv.proofs.Taped.{HaveTapedContexts, HaveValues, taped_prices}
-use Rattle.cv.proofs.Costing.{AreDecided, AreNumbers}
+use Rattle.cv.proofs.Costing.{AreDecided, AreNumbers, asked_query}
 use Rattle.cv.proofs.Faithful.{HasLinks, StandsIn, contexts_along, contexts_taken, cost_for, links_of, prices, stands_in}
 use Rattle.cv_follow.proofs.StepKinds.{IsClosure, closure}
 use Rattle.cv_sequences.proofs.files.Ready.{events_valued, file, file_of, taped, valued as valued_file}
@@ -79,11 +73,15 @@ use Rattle.cv_sequences.proofs.files.Ready.{events_valued, file, file_of, taped,
 abbrev pub AreWithinCosts : Type 0
 AreWithinCosts = (s : Scene) (query certificate : Tree) → IsProved s query certificate → (i : Interpretation) → Satisfies s.declarations i → (a : Adversary) → AtMost (chance_of (setting_of s.declarations i) (Breaks query) a s.game) (bound_of i (cost_of_certificate s certificate))
 
-abbrev pub AreSecretChoices : Type 0
-AreSecretChoices = (s : Scene) (x : ℕ) → IsWellFormed s.declarations s.game → AreUnreadChoices s.game x → (i : Interpretation) (one : Bool) (a : Adversary) → AtMost (secrecy (setting_of s.declarations i) one x a s.game) zero_chance
+abbrev pub AreSecretOfMany : Type 0
+AreSecretOfMany =
+    (s : Scene) (x : ℕ) (certificate : Tree) → IsReady s.declarations s.game → IsAccepted s (lone (Secret x)) certificate → (i : Interpretation) → Satisfies s.declarations i → (a : Adversary)
+    → AtMost (secrecy (setting_of s.declarations i) false x a s.game) zero_chance
 
-abbrev pub AreSecretCopies : Type 0
-AreSecretCopies = (s : Scene) (x : ℕ) → IsReady s.declarations s.game → AreUnreadCopies s x → (i : Interpretation) (a : Adversary) → AtMost (secrecy (setting_of s.declarations i) true x a s.game) zero_chance
+abbrev pub AreSecretOnce : Type 0
+AreSecretOnce =
+    (s : Scene) (x : ℕ) (certificate : Tree) → IsReady s.declarations s.game → IsAccepted s (lone (SecretOnce x)) certificate → (i : Interpretation) (a : Adversary)
+    → AtMost (secrecy (setting_of s.declarations i) true x a s.game) zero_chance
 
 -- a certificate of events is none of secrecy, and one of secrecy is
 
@@ -91,9 +89,13 @@ not_secret : (s : Scene) (q : Correspondence) (certificate : Tree) → IsEventsP
 not_secret s q (Node EventsCertificate parts e) h = refl
 not_secret s q certificate h = absurd h
 
-of_secret : (once : Bool) (s : Scene) (x : ℕ) (certificate : Tree) → IsSecretProof once s x certificate → (is_secret certificate ≡ true) × IsSecret once s x
-of_secret once s x (Node SecretCertificate Empty e) h = (refl, h)
-of_secret once s x certificate h = absurd h
+of_many : (s : Scene) (x : ℕ) (certificate : Tree) → IsSecretProof false s x certificate → is_secret certificate ≡ true
+of_many s x (Node SecretCertificate parts e) h = refl
+of_many s x certificate h = absurd h
+
+of_one : (s : Scene) (x : ℕ) (certificate : Tree) → IsSecretProof true s x certificate → is_secret certificate ≡ true
+of_one s x (Node SecretCertificate Empty e) h = refl
+of_one s x certificate h = absurd h
 
 -- one of secrecy costs nothing
 secret_free : (s : Scene) (certificate : Tree) → is_secret certificate ≡ true → cost_of (cost_of_certificate s certificate) ≡ bound.Zero
@@ -102,12 +104,7 @@ secret_free s certificate k = absurd (both_ways _ refl k)
 
 module _ (ds : List Declaration) (own : ℕ) (first : Tree) (w : IsFileOf ds own first) (closed : HasClosedQueries ds) (asked : AreAsked first (queries_in ds))
     (values : HaveValues ds first) (taped : HaveTapedContexts ds own)
-    (costs : AreWithinCosts) (numbers : AreNumbers) (chosen : AreSecretChoices) (copied : AreSecretCopies) (decided : AreDecided) where
-  built_by : (t : Tree) (c : Closing) (query : Tree) → closing_in t ≡ Some c → from_one (queries_in ds) c.query ≡ Some query → is_unbuilt_step (queries_in ds) t ≡ false → is_built query c.certificate ≡ true
-  built_by t c query n q e =
-      is_false (is_built query c.certificate)
-      (ap (λ o. lacks_form o c.certificate) (sym q) ∙ (ap (asks_unbuilt (queries_in ds)) (sym (closing_items (items_of_step t) c n)) ∙ e))
-
+    (costs : AreWithinCosts) (numbers : AreNumbers) (for_many : AreSecretOfMany) (for_one : AreSecretOnce) (decided : AreDecided) where
   -- its certificate fails in nothing
   accepted_by : (s : Scene) (ks : List ℕ) (c : Closing) (b : Bool) → is_among ks c.query ≡ b → (if b then Some (record { condition = 1; place = 0 }) else first_failure s (from_one (queries_in s.declarations) c.query) c.certificate) ≡ None → first_failure s (from_one (queries_in s.declarations) c.query) c.certificate ≡ None
   accepted_by s ks c true n e = absurd (cc)
@@ -162,7 +159,7 @@ module _ (ds : List Declaration) (own : ℕ) (first : Tree) (w : IsFileOf ds own
 
     -- a secret, whose certificate costs nothing
     guesses : (h : HasLinks ds own first cs front here.game) (one : Bool) (x : ℕ) (query : Tree) → is_once query ≡ one → secret_of query ≡ x → Contains (queries_in ds) (secrecy_query one x) → is_secret c.closing.certificate ≡ true → s ≡ sum_for true (with_cost (sums_along no_sums front) c.here.cost)
-        → ((i : Interpretation) (a : Adversary) → AtMost (secrecy (setting_of ds i) one x a here.game) zero_chance) → (i : Interpretation) → Satisfies ds i → (a : Adversary)
+        → ((i : Interpretation) → Satisfies ds i → (a : Adversary) → AtMost (secrecy (setting_of ds i) one x a here.game) zero_chance) → (i : Interpretation) → Satisfies ds i → (a : Adversary)
         → HasTapes (value_of ds i cs query a s) × AtMost (secrecy (setting_of ds i) one x a first) (value_of ds i cs query a s)
     guesses h one x query once is asks secret u none i sat a =
         let free : with_cost (sums_along no_sums front) c.here.cost ≡ sums_along no_sums front = ap (with_cost (sums_along no_sums front)) (closes.costs ∙ secret_free (at here.game) c.closing.certificate secret) ∙ nothing_more (sums_along no_sums front) in
@@ -181,7 +178,7 @@ module _ (ds : List Declaration) (own : ℕ) (first : Tree) (w : IsFileOf ds own
               (taped_secret ds (known_to own) first h.links here.game h.chain i sat advantages (taped_prices ds own first taped i sat shown a real (along shown asks v) h.links here.game h.chain priced)
               (taped_prices ds own first taped i sat drawn a random (along drawn asks v_random) h.links here.game h.chain priced_random)),
           subst (λ z. AtMost (secrecy (setting_of ds i) one x a first) (sum_value i advantages z)) sum
-              (carried_secret ds own first w i sat one x asks asks v v_random a advantages h.links here.game h.chain priced priced_random (none i a)),
+              (carried_secret ds own first w i sat one x asks asks v v_random a advantages h.links here.game h.chain priced priced_random (none i sat a)),
         )
 
     -- by the kind of the query
@@ -191,47 +188,40 @@ module _ (ds : List Declaration) (own : ℕ) (first : Tree) (w : IsFileOf ds own
         breaks h (Node Query bs sides) certificate same (record { correspondence = refl; ready = ready_here h; sound = w.derivations; closed = is_closed; accepted = accepted }) asks
         (c.up_to ∙ ap (λ b. sum_for b (with_cost (sums_along no_sums front) c.here.cost)) (ap is_secret same ∙ not_secret (at here.game) (correspondence_of (Node Query bs sides)) certificate accepted.proof)) i sat a
     by_kind h (Node (Secret x) Empty Empty) asks may is_closed certificate same accepted i sat a =
-        let k = of_secret false (at here.game) x certificate accepted.proof in
-        guesses h false x (Node (Secret x) Empty Empty) refl refl asks (ap is_secret same ∙ k.0) (c.up_to ∙ ap (λ b. sum_for b (with_cost (sums_along no_sums front) c.here.cost)) (ap is_secret same ∙ k.0))
-        (λ j b. chosen (at here.game) x (ready_here h).formed k.1 j false b) i sat a
+        let k = ap is_secret same ∙ of_many (at here.game) x certificate accepted.proof in
+        guesses h false x (Node (Secret x) Empty Empty) refl refl asks k (c.up_to ∙ ap (λ b. sum_for b (with_cost (sums_along no_sums front) c.here.cost)) k)
+        (for_many (at here.game) x certificate (ready_here h) accepted) i sat a
     by_kind h (Node (SecretOnce x) Empty Empty) asks may is_closed certificate same accepted i sat a =
-        let k = of_secret true (at here.game) x certificate accepted.proof in
-        guesses h true x (Node (SecretOnce x) Empty Empty) refl refl asks (ap is_secret same ∙ k.0) (c.up_to ∙ ap (λ b. sum_for b (with_cost (sums_along no_sums front) c.here.cost)) (ap is_secret same ∙ k.0))
-        (λ j b. elim k.1 [
-          | inl m ↦ chosen (at here.game) x (ready_here h).formed m j true b
-          | inr m ↦ copied (at here.game) x (ready_here h) m j b
-        ]) i sat a
+        let k = ap is_secret same ∙ of_one (at here.game) x certificate accepted.proof in
+        guesses h true x (Node (SecretOnce x) Empty Empty) refl refl asks k (c.up_to ∙ ap (λ b. sum_for b (with_cost (sums_along no_sums front) c.here.cost)) k)
+        (λ j model b. for_one (at here.game) x certificate (ready_here h) accepted j b) i sat a
     by_kind h query asks may is_closed certificate same accepted i sat a = absurd may
 
-  -- where each step that closes the query is built, it holds up to the sum, with the contexts of the whole proof
-  pub closed_holds : (ts : List Transition) (last : Tree) → IsProof ds (known_to own) first ts last → ((n : ℕ) (t : Transition) → slice_get ts n ≡ Some t → is_unbuilt_step (queries_in ds) t.step ≡ false)
-      → (j : ℕ) (query : Tree) (s : List Term) → slice_get (queries_in ds) j ≡ Some query → sum_of ts (suc j) ≡ Some s → IsBounded ds (contexts_along ds own 1 first ts) first query s
-  closed_holds ts last p built j query s q e =
+  -- a query that is closed holds up to the sum, with the contexts of the whole proof
+  pub closed_holds : (ts : List Transition) (last : Tree) → IsProof ds (known_to own) first ts last → (j : ℕ) (query : Tree) (s : List Term) → slice_get (queries_in ds) j ≡ Some query → sum_of ts (suc j) ≡ Some s → IsBounded ds (contexts_along ds own 1 first ts) first query s
+  closed_holds ts last p j query s q e =
       let c = first_closing no_sums ts (suc j) s e in
       let here = stands_in ds (known_to own) first ts last p c.place c.here c.there in
       let front = take c.place ts in
       let number : from_one (queries_in ds) c.closing.query ≡ Some query = ap (from_one (queries_in ds)) c.number ∙ q in
-      let is = built_by c.here.step c.closing query c.closes number (built c.place c.here c.there) in
+      let may = closed_at (MayBeAsked first) (queries_in ds) asked j query q in
       let sc : Scene = at here.game in
       let passes = accepted_by sc (closed_by front) c.closing (is_among (closed_by front) c.closing.query) refl (closes_so (suc (length front)) (closed_by front) here.game c.here c.closing c.closes here.here).passes in
-      let accepted = (decided sc query c.closing.certificate is).1 (ap (λ o. first_failure sc o c.closing.certificate) (sym number) ∙ passes) in
-      by_kind ts last p (suc j) s c (linked ts last p (suc j) s c) query (contains_at (queries_in ds) j query q) (closed_at (MayBeAsked first) (queries_in ds) asked j query q) (closed_at (IsClosedQuery ds) (queries_in ds) closed j query q) c.closing.certificate refl accepted
+      let none = ap (λ o. first_failure sc o c.closing.certificate) (sym number) ∙ passes in
+      let accepted = (decided sc query c.closing.certificate (asked_query first query may)).1 none in
+      by_kind ts last p (suc j) s c (linked ts last p (suc j) s c) query (contains_at (queries_in ds) j query q) may (closed_at (IsClosedQuery ds) (queries_in ds) closed j query q) c.closing.certificate refl accepted
 
 -- the verdicts of a report that took steps
 
 module _ (holds : (ds : List Declaration) → DerivationsHold ds) (unreached : (ds : List Declaration) → DerivedBodiesAreUnreached ds)
-    (costs : AreWithinCosts) (numbers : AreNumbers) (chosen : AreSecretChoices) (copied : AreSecretCopies) (decided : AreDecided)
+    (costs : AreWithinCosts) (numbers : AreNumbers) (for_many : AreSecretOfMany) (for_one : AreSecretOnce) (decided : AreDecided)
     (c : Content) (f : File) (r : Report) (bytes : List ℕ) (reads : read_of most_pool bytes ≡ Ok c) (few : length bytes ≤ most_bytes) where
   -- what its steps prove, with the contexts of the steps that were taken
   abbrev along : (r : Report) (f : File) → TakesSteps r f → Contexts
   along r f w = contexts_along (declared_in r) r.work.decls.own 1 (game_in r f) w.proof
 
-  -- no step asks for a certificate that isn't built
-  abbrev pub AreBuilt : List Transition → Type 0
-  AreBuilt ts = (n : ℕ) (t : Transition) → slice_get ts n ≡ Some t → is_unbuilt_step (queries_in (declared_in r)) t.step ≡ false
-
-  sound_here : read_of most_pool bytes ≡ Ok (file_in r f (length c.names)) → (w : TakesSteps r f) → AreBuilt w.proof → IsSoundFor (file_in r f (length c.names)) (along r f w) r.verdicts.items
-  sound_here here w built j query s q v =
+  sound_here : read_of most_pool bytes ≡ Ok (file_in r f (length c.names)) → (w : TakesSteps r f) → IsSoundFor (file_in r f (length c.names)) (along r f w) r.verdicts.items
+  sound_here here w j query s q v =
       let d : Content = file_in r f (length c.names) in
       let w_file = file_of bytes d here holds unreached few in
       let p = file bytes d here in
@@ -240,26 +230,12 @@ module _ (holds : (ds : List Declaration) → DerivationsHold ds) (unreached : (
       let closed = subst (λ (x : Content). HasClosedQueries x.declarations) (sym p.content) (queries_closed most_pool signs p.said said p.typed) in
       let number : 1 + j ≡ suc j = omega arith in
       let sum = sym (ap (sum_of w.proof) number) ∙ verdict_at (sum_of w.proof) 1 (queries_in d.declarations) j s (ap (λ vs. slice_get vs j) (sym w.verdicts) ∙ v) in
-      closed_holds d.declarations d.own d.game w_file closed (accepted most_pool bytes d here).asked (valued_file bytes d here w_file.ready) (taped bytes d here) costs numbers chosen copied decided w.proof w.last w.leads built j query s q sum
+      closed_holds d.declarations d.own d.game w_file closed (accepted most_pool bytes d here).asked (valued_file bytes d here w_file.ready) (taped bytes d here) costs numbers for_many for_one decided w.proof w.last w.leads j query s q sum
 
-  sound_taken : r.file ≡ Some f → file_in r f (length c.names) ≡ c → (w : TakesSteps r f) → AreBuilt w.proof → IsSoundFor c (contexts_in r) r.verdicts.items
-  sound_taken there same w built =
+  sound_taken : r.file ≡ Some f → file_in r f (length c.names) ≡ c → (w : TakesSteps r f) → IsSoundFor c (contexts_in r) r.verdicts.items
+  sound_taken there same w =
       subst (λ (d : Content). IsSoundFor d (contexts_in r) r.verdicts.items) same
-      (subst (λ cs. IsSoundFor (file_in r f (length c.names)) cs r.verdicts.items) (sym (contexts_taken r f w there)) (sound_here (reads ∙ ap Ok (sym same)) w built))
-
-  -- those of a proof block are built, as the file is accepted; so are those that were found
-
-  block_built : (block : List Tree) → steps_in r ≡ Some block → read_of most_pool bytes ≡ Ok (file_in r f (length c.names)) → (w : FollowsScript r f block) → AreBuilt w.took.proof
-  block_built block e here w n t i =
-      let d : Content = file_in r f (length c.names) in
-      let p = file bytes d here in
-      let built : file_unbuilt d.declarations d.script ≡ false = subst (λ (x : Content). file_unbuilt x.declarations x.script ≡ false) (sym p.content) p.built in
-      let none : has_unbuilt (queries_in d.declarations) w.steps ≡ false = stands_built (queries_in d.declarations) (nodes_in r f) block w.steps w.room w.stands (ap (file_unbuilt d.declarations) (sym e) ∙ built) in
-      none_fails (is_unbuilt_step (queries_in d.declarations)) w.took.proof w.left n t (ap (list_any (is_unbuilt_step (queries_in d.declarations))) (sym w.split) ∙ none) i
-
-  found_built : (w : FollowsStrategy r f) → AreBuilt w.took.proof
-  found_built w n t i =
-      none_fails (is_unbuilt_step (queries_in (declared_in r))) w.took.proof [] n t (ap (list_any (is_unbuilt_step (queries_in (declared_in r)))) (append-nil (map (λ x. x.step) w.took.proof)) ∙ w.built) i
+      (subst (λ cs. IsSoundFor (file_in r f (length c.names)) cs r.verdicts.items) (sym (contexts_taken r f w there)) (sound_here (reads ∙ ap Ok (sym same)) w))
 
   -- so the verdicts hold, whatever they come of
 
@@ -267,8 +243,8 @@ module _ (holds : (ds : List Declaration) → DerivationsHold ds) (unreached : (
   without_sound true there same w =
       subst (λ (d : Content). IsSoundFor d (contexts_in r) r.verdicts.items) same
       (λ k query s q v. absurd (none_proved (queries_in (declared_in r)) k s (ap (λ vs. slice_get vs k) (sym w.verdicts) ∙ v)))
-  without_sound false there same w = sound_taken there same w.took (found_built w)
+  without_sound false there same w = sound_taken there same w.took
 
   pub report_sound : (o : Option (List Tree)) → steps_in r ≡ o → r.file ≡ Some f → file_in r f (length c.names) ≡ c → Proceeds r f o → IsSoundFor c (contexts_in r) r.verdicts.items
   report_sound None e there same w = without_sound (is_games r.command) there same w
-  report_sound (Some steps) e there same w = sound_taken there same w.took (block_built steps e (reads ∙ ap Ok (sym same)) w)
+  report_sound (Some steps) e there same w = sound_taken there same w.took

@@ -37,7 +37,7 @@ use Rattle.cv.proofs.Verdicts.{judged_file}
 module _ (c : Content) (f : File) (r : Report) where
   ends_without : (games : Bool) → ProceedsWithout games r f → EndsWithout games (moves_in r.command) (file_in r f (length c.names)) r.status
   ends_without true p = p.status
-  ends_without false p = (length r.work.pool.trees, record { proof = p.took.proof; last = p.took.last; leads = p.took.leads; made = p.made; counted = p.counted; few = p.few; built = p.built; ends = p.ends })
+  ends_without false p = (length r.work.pool.trees, record { proof = p.took.proof; last = p.took.last; leads = p.took.leads; made = p.made; counted = p.counted; few = p.few; ends = p.ends })
 
   ends : (o : Option (List Tree)) → Proceeds r f o → EndsBy r.command (file_in r f (length c.names)) o r.status
   ends None p = ends_without (is_games r.command) p

@@ -24,7 +24,6 @@ judged_as c (status.Limit (Nodes n)) bytes h = h
 judged_as c (status.Limit (Depth n)) bytes h = h
 judged_as c (status.Limit Steps) bytes h = h
 judged_as c (status.Limit File) bytes h = h
-judged_as c status.Unbuilt bytes h = h
 
 -- a run over a file ends as is expected of it
 pub judged_file : (command : Command) (s : Status) (bytes : List ℕ) (c : Content) → read_of most_pool bytes ≡ Ok c → EndsBy command c c.script s → Judged command s bytes
@@ -49,5 +48,4 @@ judged_fault c (fault.Scope x) bytes e = judged_refusal c (fault.Scope x) bytes 
 judged_fault c (fault.Group k x) bytes e = judged_refusal c (fault.Group k x) bytes e
 judged_fault c (fault.Query k) bytes e = judged_refusal c (fault.Query k) bytes e
 judged_fault c (fault.Room need) bytes e = inr e
-judged_fault c fault.Unbuilt bytes e = judged_refusal c fault.Unbuilt bytes e
 judged_fault c fault.OutOfMemory bytes e = tt

@@ -1,5 +1,5 @@
 -- What each answer comes from.
-use Rattle.std.specs.Prelude.{◌≡◌, ℕ, ◌+◌, ◌-◌, ◌<◌, ◌⊎◌, min, true, map, List, [], ◌∷◌, ◌++◌, length, Option, Some, None, option_map, Ok, Err, IfSome, IsNone, IsSome, IsSomeAnd, option_and_then}
+use Rattle.std.specs.Prelude.{◌≡◌, ℕ, ◌+◌, ◌-◌, ◌<◌, min, true, map, List, ◌∷◌, ◌++◌, length, Option, Some, None, Ok, Err, IfSome, IsNone, IsSome, IsSomeAnd, option_and_then}
 use Rattle.std.specs.List.{list_all}
 use Rattle.cv_outside.specs.Causes.{Rose}
 use Rattle.cv_outside.specs.Told.{Files}
@@ -32,8 +32,7 @@ use Rattle.cv_meaning.specs.Queries.{queries_in}
 use Rattle.cv_query_form.specs.Rules.{IsFirstRefused}
 use Rattle.cv_syntax_trees.specs.Tree.{Tree}
 use Rattle.cv_syntax.specs.declared.work.File.{File}
-use Rattle.cv_accept.specs.Accepted.{IsFull, asks_unbuilt, block_of, most_bytes, most_pool}
-use Rattle.cv_script.specs.reader.Scripts.{items}
+use Rattle.cv_accept.specs.Accepted.{IsFull, block_of, most_bytes, most_pool}
 use Rattle.cv_accept.specs.Places.{nodes_before}
 use Rattle.cv_outside.specs.words.Forms.{Asked}
 use Rattle.cv_report.specs.declared.report.FileFault.TheVariants.{Lex, Parse, Script, Types, Scope, Group, Query}
@@ -61,8 +60,7 @@ pub record OfTokens (bytes : List ℕ) (Holds : List Token → Type 0) : Type 0 
 abbrev pub block_signs : List Token → ℕ × ℕ → List Sign
 block_signs tokens range = (script_signs (signs_of tokens).names (between (min range.0 range.1) range.1 tokens)).signs
 
--- The tokens are those of a file with a proof block that is refused at this token: no script goes through it, whatever its
--- steps are.
+-- The tokens are those of a file with a proof block that is refused at this token: no script goes through it.
 pub record HasNoScript (tokens : List Token) (token : ℕ) : Type 0 where
   pub said : Parsed
   pub says : Says most_pool (signs_of tokens).signs said
@@ -116,21 +114,6 @@ pub record HasQueryFault (tokens : List Token) (k : ℕ) : Type 0 where
   pub scoped : IsScoped said.declarations said.game
   pub groups : AreAccepted (symbols_of said.declarations) (equivalences_in said.declarations)
   pub first : IsFirstRefused said.game (queries_in said.declarations) k
-
--- The tokens are those of a file whose proof block has a step that has no rule, behind steps that have one.
-pub record HasStep (tokens : List Token) : Type 0 where
-  pub said : Parsed
-  pub says : Says most_pool (signs_of tokens).signs said
-  pub token : ℕ
-  pub refused : block_of tokens said ≡ Err (block.Unbuilt token)
-
--- They are those of a file whose proof block closes a query by a certificate that isn't built.
-pub record HasCertificate (tokens : List Token) : Type 0 where
-  pub said : Parsed
-  pub says : Says most_pool (signs_of tokens).signs said
-  pub script : Option Tree
-  pub block : block_of tokens said ≡ Ok script
-  pub unbuilt : asks_unbuilt said.declarations (option_map items script) ≡ true
 
 -- Without a proof block steps were found, each accepted in turn, of which so many were counted as moves, and a query is open.
 pub record LeavesOpen (r : Report) (f : File) (made : ℕ) : Type 0 where
@@ -237,7 +220,6 @@ pub data ComesFrom (o : Outside) (r : Report) : Status → Type 0 where
   scope : {e : ScopeFault} → OfTold o (λ tokens. HasScopeFault tokens e) → ComesFrom o r (status.FileRefused (Scope e))
   group : {k : ℕ} {e : GroupFault} → OfTold o (λ tokens. HasGroupFault tokens k e) → ComesFrom o r (status.FileRefused (Group k e))
   query : {k : ℕ} → OfTold o (λ tokens. HasQueryFault tokens k) → ComesFrom o r (status.FileRefused (Query k))
-  unbuilt : OfTold o (λ tokens. HasStep tokens ⊎ HasCertificate tokens) → ComesFrom o r status.Unbuilt
   nodes : {count : ℕ} → OfSigns o (λ signs. IsLarge signs (HasNodes count)) → ComesFrom o r (status.Limit (Nodes count))
   deep : {depth : ℕ} → OfSigns o (λ signs. IsLarge signs (HasDepth depth)) → ComesFrom o r (status.Limit (Depth depth))
   pool : {need : ℕ} → IsNone r.file → most_pool < need → OfSigns o (λ signs. IsLarge signs (HasWeight most_pool need)) → ComesFrom o r (status.Limit (Pool need))

@@ -26,5 +26,4 @@ status_of (fault.Scope e) = status.FileRefused (Scope e)
 status_of (fault.Group k e) = status.FileRefused (Group k e)
 status_of (fault.Query k) = status.FileRefused (Query k)
 status_of (fault.Room need) = status.Limit (Pool need)
-status_of fault.Unbuilt = status.Unbuilt
 status_of fault.OutOfMemory = status.Memory

@@ -40,7 +40,6 @@ use Rattle.cv.specs.Faults.{status_of as ended_by}
 use Rattle.cv_follow.specs.Scripts.{EndsScript, Follows, entry_in, entry_of, first_open, known_to, most_steps, verdicts_of}
 use Rattle.cv_follow.specs.Fillings.{StandsFor, has_word}
 use Rattle.cv_follow.specs.Searches.{AreMoves, EndsSearch, Finds}
-use Rattle.cv_query.specs.kinds.Built.{has_unbuilt}
 use Rattle.cv.specs.Values.{Contexts, value_of}
 
 -- `games` asks for no verdicts
@@ -101,7 +100,6 @@ Judged c s bytes = IsExpected c (read_of most_pool bytes) s
 abbrev pub SpeaksOfFile : Status → Type 0
 SpeaksOfFile status.Proved = Unit {0}
 SpeaksOfFile (status.Open cause) = Unit {0}
-SpeaksOfFile status.Unbuilt = Unit {0}
 SpeaksOfFile (status.FileRefused fault) = Unit {0}
 SpeaksOfFile (status.Limit (Nodes count)) = Unit {0}
 SpeaksOfFile (status.Limit (Depth depth)) = Unit {0}
@@ -144,7 +142,6 @@ pub record FollowsStrategy (r : Report) (f : File) : Type 0 where
   pub made : ℕ
   pub counted : AreMoves (map (λ t. t.step) took.proof) made
   pub few : made ≤ moves_in r.command
-  pub built : has_unbuilt (queries_in (declared_in r)) (map (λ t. t.step) took.proof) ≡ false
   pub ends : EndsSearch (moves_in r.command) made (length r.work.pool.trees) (scene (declared_in r) (known_to r.work.decls.own) took.last) (map (λ t. t.step) took.proof) (closed_by took.proof) (queries_in (declared_in r)) r.status
 
 -- The steps are those of the proof block that are accepted in turn, and in the place of the word `simplify` some that settle the game; the

@@ -28,9 +28,7 @@ use cv_derive_laws::reached::derivations_are_sound;
 use cv_query_certificates::accepted_exactly_where_nothing_fails;
 use cv_query_injections::accepted_correspondences_are_within_their_costs;
 use cv_query_injections::values::accepted_certificates_cost_a_number;
-use cv_query_secrets::unread::{
-    unread_choices_are_secret, unread_copies_are_secret_for_one_session,
-};
+use cv_query_secrets::sessions::accepted_secrets_have_no_advantage;
 use cv_report::outcome::refused;
 use cv_report::{Command, Report};
 use cv_syntax::{File, Work};
@@ -103,8 +101,7 @@ pub fn judge(alloc: Global, work: Work, command: Command, bytes: &[u8]) -> Repor
     accepted_exactly_where_nothing_fails();
     accepted_correspondences_are_within_their_costs();
     accepted_certificates_cost_a_number();
-    unread_choices_are_secret();
-    unread_copies_are_secret_for_one_session();
+    accepted_secrets_have_no_advantage();
     let mut work = work;
     match read(alloc, &mut work, bytes) {
         Ok(accepted) => run_accepted(alloc, work, command, accepted),

@@ -34,7 +34,6 @@ pub fn status_of(fault: FileError) -> Status
         }
         FileError::Query(k) => Status::FileRefused(FileFault::Query(k)),
         FileError::Room { need } => Status::Limit(Which::Pool { need }),
-        FileError::Unbuilt => Status::Unbuilt,
         FileError::OutOfMemory => Status::Memory,
     }
 }

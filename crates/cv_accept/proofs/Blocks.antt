@@ -1,5 +1,5 @@
 -- Proof blocks that are read into a pool, and what stays of a work then.
-use Rattle.std.proofs.Common.{◌≡◌, ℕ, zero, suc, ◌+◌, ◌-◌, ◌<◌, ◌≤◌, min, Bool, true, false, nat_lt, if◌then◌else◌, List, [], ◌∷◌, codes, length, refl, ap, ap₂, subst, sym, ◌∙◌, arith, Option, Some, Result, Ok, Err}
+use Rattle.std.proofs.Common.{◌≡◌, ℕ, zero, suc, ◌+◌, ◌<◌, ◌≤◌, min, Bool, true, false, nat_lt, if◌then◌else◌, List, [], ◌∷◌, codes, length, refl, ap, ap₂, subst, sym, ◌∙◌, arith, Option, Some, Result, Ok, Err}
 use Rattle.std.proofs.lemmas.Bool.Decides.{nat_tests}
 use Rattle.std.specs.Prelude.{All, IsErrAnd, option_map, slice_index_or}
 use Rattle.std.specs.declared.vec.Vec.{Vec}
@@ -33,14 +33,12 @@ use Rattle.cv_parse.specs.Declaring.{IsBelow}
 use Rattle.cv_parse.specs.Parsed.{held_in}
 use Rattle.cv_script.specs.declared.reader.error.ScriptError.{ScriptError}
 use Rattle.cv_script.specs.declared.reader.error.ScriptError.TheVariants as script
-use Rattle.cv_parse_notation.specs.Spells.{next_is}
-use Rattle.cv_script.specs.reader.Scripts.{begins_step, items, read_row, script_read, stop_at, trees_of}
+use Rattle.cv_script.specs.reader.Scripts.{items, read_script, script_read, trees_of}
 use Rattle.cv_syntax.specs.limits.Limits.{nodes_of}
 use Rattle.cv_script.specs.reader.Scripts as scripts
 use Rattle.cv_script.specs.reader.Trees.{in_room, of_whole, tree_read, whole}
 use Rattle.cv_script.proofs.reader.Steps.{read_in_room}
 use Rattle.cv_script.specs.declared.steps.Step.{Step}
-use Rattle.cv_script.specs.rows.Rows.{built_script_row}
 use Rattle.cv_accept.specs.declared.error.FileError.{FileError}
 use Rattle.cv_syntax.specs.declared.work.Work.{Work}
 use Rattle.cv_accept.specs.Accepted.{Content, block_by, content_of, names_by, of_block, there}
@@ -49,12 +47,9 @@ use Rattle.cv_accept.specs.Works.{content_at, script_in}
 
 -- reading the tree of a script asks for no room
 
-no_build_stop : (token : ℕ) (rest : List Sign) (b : BuildError) → stop_at token rest ≡ script.Build b → ⊥
-no_build_stop token rest b = elim (next_is begins_step rest) as (λ v. (if v then script.Unbuilt token else script.Script token) ≡ script.Build b → ⊥) [ true ↦ λ e. absurd (cc) | false ↦ λ e. absurd (cc) ]
-
 no_build_whole : (end : ℕ) (t : Tree) (rest : List Sign) (b : BuildError) → whole end t rest ≡ Err (script.Build b) → ⊥
 no_build_whole end t [] b e = absurd (cc)
-no_build_whole end t (s ∷ rest) b e = no_build_stop (end - length (s ∷ rest)) (s ∷ rest) b (cc)
+no_build_whole end t (s ∷ rest) b e = absurd (cc)
 
 no_build : (end : ℕ) (r : Read Role Tree) (b : BuildError) → of_whole end r ≡ Err (script.Build b) → ⊥
 no_build end (Ok x) b e = no_build_whole end x.value x.rest b e
@@ -80,7 +75,6 @@ module _ (limit live : ℕ) (trees : List KindTree) where
 
   refuses_same : (end : ℕ) (r : Read Role Tree) (x e : ScriptError) → of_whole end r ≡ Err x → x ≡ e → IsBlock limit live (there (Err x)) trees (Err (of_script e))
   refuses_same end r x (script.Script token) h f = (x, refl, ap of_block (sym f))
-  refuses_same end r x (script.Unbuilt token) h f = (x, refl, ap of_block (sym f))
   refuses_same end r x (script.Build b) h f = absurd (no_build end r b (h ∙ ap Err f))
 
   -- why a block isn't read
@@ -88,12 +82,10 @@ module _ (limit live : ℕ) (trees : List KindTree) where
   refused_by end r (Ok t) i (script.Build build.OutOfMemory) h = tt
   refused_by end r (Err x) i (script.Build build.OutOfMemory) h = tt
   refused_by end r (Ok t) i (script.Script token) h = refuses_full t (script.Script token) h
-  refused_by end r (Ok t) i (script.Unbuilt token) h = refuses_full t (script.Unbuilt token) h
   refused_by end r (Ok t) i (script.Build (build.Full n)) h = refuses_full t (script.Build (build.Full n)) h
   refused_by end r (Ok t) i (script.Build (build.Nodes n)) h = refuses_full t (script.Build (build.Nodes n)) h
   refused_by end r (Ok t) i (script.Build (build.Depth n)) h = refuses_full t (script.Build (build.Depth n)) h
   refused_by end r (Err x) i (script.Script token) h = refuses_same end r x (script.Script token) i (cc)
-  refused_by end r (Err x) i (script.Unbuilt token) h = refuses_same end r x (script.Unbuilt token) i (cc)
   refused_by end r (Err x) i (script.Build (build.Full n)) h = refuses_same end r x (script.Build (build.Full n)) i (cc)
   refused_by end r (Err x) i (script.Build (build.Nodes n)) h = refuses_same end r x (script.Build (build.Nodes n)) i (cc)
   refused_by end r (Err x) i (script.Build (build.Depth n)) h = refuses_same end r x (script.Build (build.Depth n)) i (cc)
@@ -112,12 +104,12 @@ module _ (limit live : ℕ) (trees : List KindTree) (names : List (List ℕ)) (t
   abbrev signs : List Sign
   signs = (script_signs names (between first to ts)).signs
 
-  pub block_refused : (e : ScriptError) → scripts.Refuses e (script_read built_script_row limit live names ts first to) → IsBlock limit live (block_by ts names (Some (from, to))) trees (Err (of_script e))
+  pub block_refused : (e : ScriptError) → scripts.Refuses e (script_read limit live names ts first to) → IsBlock limit live (block_by ts names (Some (from, to))) trees (Err (of_script e))
   block_refused e h =
-      refused_by limit live trees (first + length signs) (read_row built_script_row signs) (tree_read built_script_row names ts first to) refl e (subst (scripts.Refuses e) (read_in_room built_script_row limit live first signs) h)
+      refused_by limit live trees (first + length signs) (read_script signs) (tree_read names ts first to) refl e (subst (scripts.Refuses e) (read_in_room limit live first signs) h)
 
-  pub block_taken : (v : Vec Step Global) → script_read built_script_row limit live names ts first to ≡ Ok (trees_of trees v.items) → IsBlock limit live (block_by ts names (Some (from, to))) trees (Ok (Some v))
-  block_taken v h = taken_by limit live trees (tree_read built_script_row names ts first to) v (sym (read_in_room built_script_row limit live first signs) ∙ h)
+  pub block_taken : (v : Vec Step Global) → script_read limit live names ts first to ≡ Ok (trees_of trees v.items) → IsBlock limit live (block_by ts names (Some (from, to))) trees (Ok (Some v))
+  block_taken v h = taken_by limit live trees (tree_read names ts first to) v (sym (read_in_room limit live first signs) ∙ h)
 
 pub block_on : (limit live : ℕ) (ts : List Token) (names : List (List ℕ)) (block : Option (ℕ × ℕ)) (trees : List KindTree) (r : Result (Option (Vec Step Global)) FileError) (e : FileError) → IsErrAnd r (λ x. x ≡ e) → IsBlock limit live (block_by ts names block) trees (Err e) → IsBlock limit live (block_by ts names block) trees r
 block_on limit live ts names block trees (Ok v) e i h = absurd i

@@ -1,6 +1,6 @@
 -- From bytes to what they hold, or what they are refused for.
-use Rattle.std.proofs.Common.{if◌then◌else◌, ◌≡◌, ℕ, suc, ◌<◌, ◌+◌, ◌≤◌, true, false, Bool, List, length, refl, ap, subst, sym, ◌∙◌, arith, Option, Some, None, Result, Ok, Err}
-use Rattle.std.specs.Prelude.{IfSome, IsErrAnd, option_map}
+use Rattle.std.proofs.Common.{if◌then◌else◌, ◌≡◌, ℕ, suc, ◌<◌, ◌+◌, ◌≤◌, List, length, refl, ap, subst, sym, ◌∙◌, arith, Option, Some, None, Result, Ok, Err}
+use Rattle.std.specs.Prelude.{IfSome, IsErrAnd}
 use Rattle.cv_lex.specs.declared.LexError.{LexError}
 use Rattle.cv_lex.specs.declared.LexError.TheVariants as lex
 use Rattle.cv_lex.specs.Lexis.{Token, Lexed, tokens_of, Fails}
@@ -12,7 +12,6 @@ use Rattle.cv_syntax_trees.specs.Tree.{Tree}
 use Rattle.cv_parse_tables.specs.terminals.Signs.{signs_of}
 use Rattle.cv_parse_tables.proofs.terminals.Telling.{count_all}
 use Rattle.cv_script.specs.declared.reader.error.ScriptError.{ScriptError}
-use Rattle.cv_script.specs.reader.Scripts.{items}
 use Rattle.cv_parse.specs.Nodes.{file_nodes}
 use Rattle.cv_parse.specs.declared.error.ParseError.{ParseError}
 use Rattle.cv_parse.specs.declared.error.ParseError.TheVariants as parse
@@ -45,9 +44,9 @@ use Rattle.cv_query_form.specs.Refusals.{IsRefusalOf as IsQueryRefusal}
 use Rattle.cv_query_form.proofs.First.{asked_where_none, none_where_asked}
 use Rattle.cv_parse_laws.proofs.Games.{well_formed}
 use Rattle.cv_accept.specs.declared.error.FileError.{FileError}
-use Rattle.cv_accept.specs.declared.error.FileError.TheVariants.{Lex, Parse, Script, Types, Scope, Group, Query, Room, Unbuilt, OutOfMemory}
-use Rattle.cv_accept.specs.Accepted.{Content, IsFile, IsFull, Refuses, asks_unbuilt, block_of, content_of, group_fault, of_block, of_form, of_groups, of_parsed, of_queries, of_scopes, of_script, of_tokens, of_types, query_fault, read_of, scope_fault, type_fault}
-use Rattle.cv_accept.specs.Faults.{IsBlock, IsUnbuiltFault, of_lex, of_parse, of_group, of_query, of_scope, of_type}
+use Rattle.cv_accept.specs.declared.error.FileError.TheVariants.{Lex, Parse, Script, Types, Scope, Group, Query, Room, OutOfMemory}
+use Rattle.cv_accept.specs.Accepted.{Content, IsFile, IsFull, Refuses, block_of, content_of, group_fault, of_block, of_groups, of_parsed, of_queries, of_scopes, of_script, of_tokens, of_types, query_fault, read_of, scope_fault, type_fault}
+use Rattle.cv_accept.specs.Faults.{IsBlock, of_lex, of_parse, of_group, of_query, of_scope, of_type}
 use Rattle.cv_accept.specs.Places.{nodes_before}
 use Rattle.cv_accept.proofs.Places.{behind_none, none_behind}
 use Rattle.cv_syntax.specs.declared.work.Work.{Work}
@@ -116,24 +115,10 @@ module _ (limit live : ℕ) (bs : List ℕ) (ts : List Token) (p : Parsed) (t : 
   block_refuses trees (Scope x) l w = by_error w.0 w.1 ∙ ap (λ y. Err y) (sym w.2)
   block_refuses trees (Group k x) l w = by_error w.0 w.1 ∙ ap (λ y. Err y) (sym w.2)
   block_refuses trees (Query x) l w = by_error w.0 w.1 ∙ ap (λ y. Err y) (sym w.2)
-  block_refuses trees Unbuilt l w = by_error w.0 w.1 ∙ ap (λ y. Err y) (sym w.2)
 
   -- a block that is read
-  pub by_block : (block : Option Tree) → block_of ts p ≡ Ok block → asks_unbuilt p.declarations (option_map items block) ≡ false → read_of limit bs ≡ of_types (content_of ts p block) p (type_fault p)
-  by_block block b u = by_parsing limit bs ts p t h ∙ (ap (of_script ts p) b ∙ ap (of_form ts p block) u)
-
-  -- a block with a certificate that isn't built
-  pub form_refuses : (block : Option Tree) (e : FileError) → block_of ts p ≡ Ok block → IsUnbuiltFault (asks_unbuilt p.declarations (option_map items block)) e → Refuses limit bs e
-  form_refuses block OutOfMemory b u = tt
-  form_refuses block Unbuilt b u = by_parsing limit bs ts p t h ∙ (ap (of_script ts p) b ∙ ap (of_form ts p block) u)
-  form_refuses block (Lex x) b u = absurd u
-  form_refuses block (Parse x) b u = absurd u
-  form_refuses block (Script x) b u = absurd u
-  form_refuses block (Types x) b u = absurd u
-  form_refuses block (Scope x) b u = absurd u
-  form_refuses block (Group k x) b u = absurd u
-  form_refuses block (Query x) b u = absurd u
-  form_refuses block (Room need) b u = absurd u
+  pub by_block : (block : Option Tree) → block_of ts p ≡ Ok block → read_of limit bs ≡ of_types (content_of ts p block) p (type_fault p)
+  by_block block b = by_parsing limit bs ts p t h ∙ ap (of_script ts p) b
 
 -- what is left of a file whose block is read, with what it holds
 module _ (limit : ℕ) (bs : List ℕ) (f : Content) (p : Parsed) where
@@ -207,18 +192,14 @@ module _ (c : Content) (p : Parsed) (f : Content) where
   from_types None i e = from_scopes i (scope_fault p) refl e
   from_types (Some x) i e = absurd (cc)
 
-from_form : (ts : List Token) (p : Parsed) (f : Content) (block : Option Tree) (b : Bool) → of_form ts p block b ≡ Ok f → (b ≡ false) × (of_types (content_of ts p block) p (type_fault p) ≡ Ok f)
-from_form ts p f block true e = absurd (cc)
-from_form ts p f block false e = (refl, e)
-
-from_script : (ts : List Token) (p : Parsed) (f : Content) (r : Result (Option Tree) ScriptError) → of_script ts p r ≡ Ok f → (block : Option Tree) × (r ≡ Ok block) × (asks_unbuilt p.declarations (option_map items block) ≡ false) × (of_types (content_of ts p block) p (type_fault p) ≡ Ok f)
-from_script ts p f (Ok block) e = let u = from_form ts p f block (asks_unbuilt p.declarations (option_map items block)) e in (block, refl, u.0, u.1)
+from_script : (ts : List Token) (p : Parsed) (f : Content) (r : Result (Option Tree) ScriptError) → of_script ts p r ≡ Ok f → (block : Option Tree) × (r ≡ Ok block) × (of_types (content_of ts p block) p (type_fault p) ≡ Ok f)
+from_script ts p f (Ok block) e = (block, refl, e)
 from_script ts p f (Err x) e = absurd (cc)
 
 from_parsed : (limit : ℕ) (bs : List ℕ) (ts : List Token) (f : Content) (r : Result Parsed ParseError) → Lexed 0 bs (Ok ts) → parsed limit (signs_of ts).signs ≡ r → of_parsed ts r ≡ Ok f → IsFile limit bs f
 from_parsed limit bs ts f (Ok p) l e i =
     let s = from_script ts p f (block_of ts p) i in
-    let b = from_types (content_of ts p s.0) p f (type_fault p) refl s.3 in
+    let b = from_types (content_of ts p s.0) p f (type_fault p) refl s.2 in
     record {
       tokens = ts;
       said = p;
@@ -226,7 +207,6 @@ from_parsed limit bs ts f (Ok p) l e i =
       says = said_is_saying limit (signs_of ts).signs p e;
       script = s.0;
       block = s.1;
-      built = s.2;
       typed = parts_typed_where_none p.declarations 0 (file_parts p.declarations p.game) b.types;
       scoped = scoped_where_none (names_of p.declarations p.game) at_root p.game (behind_none (nodes_before p.declarations) (first_scope_fault p.declarations p.game) b.scope);
       groups = all-accepted (symbols_of p.declarations) (equivalences_in p.declarations) b.groups;
@@ -250,19 +230,17 @@ file_is_read limit bs f w =
     ap (of_tokens limit) (said bs (Ok w.tokens) w.lexed)
     ∙ (ap (of_parsed w.tokens) (says_is_said limit (signs_of w.tokens).signs w.said w.says)
     ∙ (ap (of_script w.tokens w.said) w.block
-    ∙ (ap (of_form w.tokens w.said w.script) w.built
     ∙ (ap (of_types c w.said) (none_where_parts_typed w.said.declarations 0 (file_parts w.said.declarations w.said.game) w.typed)
     ∙ (ap (of_scopes c w.said) (none_behind (nodes_before w.said.declarations) (first_scope_fault w.said.declarations w.said.game) (none_where_scoped (names_of w.said.declarations w.said.game) at_root w.said.game w.scoped))
     ∙ (ap (of_groups c w.said) (none-refused (symbols_of w.said.declarations) (equivalences_in w.said.declarations) w.groups)
     ∙ (ap (of_queries c) (none_where_asked w.said.game (queries_in w.said.declarations) w.asked)
-    ∙ ap Ok (sym w.content))))))))
+    ∙ ap Ok (sym w.content)))))))
 
 -- a file for whose proof block a pool may have no room
 pub full_content : (limit : ℕ) (bs : List ℕ) (need : ℕ) (f : Content) (w : IsFull limit bs need) → read_of limit bs ≡ Ok f → f ≡ content_of w.tokens w.said (Some w.script)
 full_content limit bs need f w e =
     let b = by_parsing limit bs w.tokens w.said w.lexed (says_is_said limit (signs_of w.tokens).signs w.said w.says) ∙ ap (of_script w.tokens w.said) w.block in
-    let u = from_form w.tokens w.said f (Some w.script) (asks_unbuilt w.said.declarations (Some (items w.script))) (sym b ∙ e) in
-    sym (from_types (content_of w.tokens w.said (Some w.script)) w.said f (type_fault w.said) refl u.1).content
+    sym (from_types (content_of w.tokens w.said (Some w.script)) w.said f (type_fault w.said) refl (sym b ∙ e)).content
 
 pub accepted : (limit : ℕ) (bs : List ℕ) (f : Content) → read_of limit bs ≡ Ok f → IsAccepted f
 accepted limit bs f e =

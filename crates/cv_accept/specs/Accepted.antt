@@ -1,5 +1,5 @@
 -- Files: what they hold, and which bytes are one.
-use Rattle.std.specs.Prelude.{◌≡◌, ℕ, ◌+◌, ◌<◌, min, Bool, true, false, List, length, Option, Some, None, option_map, Result, Ok, Err}
+use Rattle.std.specs.Prelude.{◌≡◌, ℕ, ◌+◌, ◌<◌, min, List, length, Option, Some, None, option_map, Result, Ok, Err}
 use Rattle.cv_lex.specs.Lexis.{Token, Lexed, tokens_of}
 use Rattle.cv_lex.specs.declared.LexError.{LexError}
 use Rattle.cv_parse_tables.specs.terminals.ScriptSigns.{between, script_signs}
@@ -9,7 +9,6 @@ use Rattle.cv_script.specs.declared.reader.error.ScriptError.TheVariants as scri
 use Rattle.cv_script.specs.reader.Scripts.{items}
 use Rattle.cv_syntax.specs.limits.Limits.{nodes_of}
 use Rattle.cv_script.specs.reader.Trees.{tree_read}
-use Rattle.cv_script.specs.rows.Rows.{built_script_row}
 use Rattle.cv_syntax_trees.specs.Declarations.{Declaration}
 use Rattle.cv_syntax_trees.specs.Tree.{Tree}
 use Rattle.cv_parse.specs.declared.error.ParseError.{ParseError}
@@ -25,12 +24,11 @@ use Rattle.cv_scope_rules.specs.Scope.{IsScoped, first_scope_fault}
 use Rattle.cv_group.specs.Refusals.{refused_by}
 use Rattle.cv_group_rules.specs.Symbols.{symbols_of}
 use Rattle.cv_group_rules.specs.Faults.{AreAccepted, GroupRule, equivalences_in, first_group_fault}
-use Rattle.cv_query.specs.kinds.Built.{has_unbuilt}
 use Rattle.cv_meaning.specs.Queries.{queries_in}
 use Rattle.cv_query_form.specs.Rules.{AreAsked}
 use Rattle.cv_query_form.specs.Tests.{first_refused}
 use Rattle.cv_accept.specs.declared.error.FileError.{FileError}
-use Rattle.cv_accept.specs.declared.error.FileError.TheVariants.{Lex, Parse, Script, Types, Scope, Group, Query, Room, Unbuilt, OutOfMemory}
+use Rattle.cv_accept.specs.declared.error.FileError.TheVariants.{Lex, Parse, Script, Types, Scope, Group, Query, Room, OutOfMemory}
 use Rattle.cv_accept.specs.Places.{behind, nodes_before}
 
 -- the most bytes of a file
@@ -60,7 +58,7 @@ there (Err e) = Err e
 -- the tree of a block behind these names, where there is one
 abbrev pub block_by : List Token → List (List ℕ) → Option (ℕ × ℕ) → Result (Option Tree) ScriptError
 block_by ts names None = Ok None
-block_by ts names (Some b) = there (tree_read built_script_row names ts (min b.0 b.1) b.1)
+block_by ts names (Some b) = there (tree_read names ts (min b.0 b.1) b.1)
 
 -- the names with those of a block behind them
 abbrev pub names_by : List Token → List (List ℕ) → Option (ℕ × ℕ) → List (List ℕ)
@@ -80,13 +78,8 @@ content_of ts p block = record {
   script = option_map items block;
 }
 
--- a step of a proof block, where there is one, asks for a certificate that isn't built
-abbrev pub asks_unbuilt : List Declaration → Option (List Tree) → Bool
-asks_unbuilt ds None = false
-asks_unbuilt ds (Some steps) = has_unbuilt (queries_in ds) steps
-
--- These bytes are a file that holds this, in a pool with such a limit: with a proof block whose steps have rules, and whose
--- certificates are built, if it has one, typed, in scope, with equivalences that are accepted and queries that may be asked.
+-- These bytes are a file that holds this, in a pool with such a limit: with a proof block that is a script, if it has one, typed,
+-- in scope, with equivalences that are accepted and queries that may be asked.
 pub record IsFile (limit : ℕ) (bytes : List ℕ) (f : Content) : Type 0 where
   pub tokens : List Token
   pub said : Parsed
@@ -94,7 +87,6 @@ pub record IsFile (limit : ℕ) (bytes : List ℕ) (f : Content) : Type 0 where
   pub says : Says limit (signs_of tokens).signs said
   pub script : Option Tree
   pub block : block_of tokens said ≡ Ok script
-  pub built : asks_unbuilt said.declarations (option_map items script) ≡ false
   pub typed : IsTypedFile said.declarations said.game
   pub scoped : IsScoped said.declarations said.game
   pub groups : AreAccepted (symbols_of said.declarations) (equivalences_in said.declarations)
@@ -149,15 +141,10 @@ type_fault p = first_in p.declarations 0 (file_parts p.declarations p.game)
 -- why a file is refused whose proof block is no script; reading its tree asks for no room
 abbrev pub of_block : ScriptError → FileError
 of_block (script.Script token) = Script token
-of_block (script.Unbuilt token) = Unbuilt
 of_block (script.Build e) = OutOfMemory
 
-abbrev pub of_form : List Token → Parsed → (block : Option Tree) → (unbuilt : Bool) → Result Content FileError
-of_form ts p block true = Err Unbuilt
-of_form ts p block false = of_types (content_of ts p block) p (type_fault p)
-
 abbrev pub of_script : List Token → Parsed → Result (Option Tree) ScriptError → Result Content FileError
-of_script ts p (Ok block) = of_form ts p block (asks_unbuilt p.declarations (option_map items block))
+of_script ts p (Ok block) = of_types (content_of ts p block) p (type_fault p)
 of_script ts p (Err e) = Err (of_block e)
 
 abbrev pub of_parsed : List Token → Result Parsed ParseError → Result Content FileError
@@ -168,7 +155,7 @@ abbrev pub of_tokens : ℕ → Result (List Token) LexError → Result Content F
 of_tokens limit (Ok ts) = of_parsed ts (parsed limit (signs_of ts).signs)
 of_tokens limit (Err e) = Err (Lex e)
 
--- Lexis first, then what the tokens say, the proof block with its certificates, types, scope, equivalences and queries.
+-- Lexis first, then what the tokens say, the proof block, types, scope, equivalences and queries.
 unfoldable pub read_of : (limit : ℕ) → List ℕ → Result Content FileError
 read_of limit bytes = of_tokens limit (tokens_of bytes)
 

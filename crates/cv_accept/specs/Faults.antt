@@ -1,5 +1,5 @@
 -- How the faults of the stages are answered.
-use Rattle.std.specs.Prelude.{◌≡◌, ℕ, ◌+◌, ◌<◌, Bool, true, List, Option, Some, option_map, Result, Ok, Err}
+use Rattle.std.specs.Prelude.{◌≡◌, ℕ, ◌+◌, ◌<◌, List, Option, Some, option_map, Result, Ok, Err}
 use Rattle.std.specs.declared.vec.Vec.{Vec}
 use Rattle.std.specs.declared.alloc.Global.{Global}
 use Rattle.cv_pool.specs.KindTree.{KindTree}
@@ -26,7 +26,7 @@ use Rattle.cv_query_form.specs.declared.fault.QueryFault.TheVariants as query
 use Rattle.cv_accept.specs.Accepted.{of_block}
 use Rattle.cv_accept.specs.Works.{script_in}
 use Rattle.cv_accept.specs.declared.error.FileError.{FileError}
-use Rattle.cv_accept.specs.declared.error.FileError.TheVariants.{Lex, Parse, Script, Types, Scope, Group, Query, Room, Unbuilt, OutOfMemory}
+use Rattle.cv_accept.specs.declared.error.FileError.TheVariants.{Lex, Parse, Script, Types, Scope, Group, Query, Room, OutOfMemory}
 
 abbrev pub of_lex : LexError → FileError
 of_lex lex.OutOfMemory = OutOfMemory
@@ -55,7 +55,6 @@ of_parse e = Parse e
 -- why a file is refused whose proof block isn't read into a pool
 abbrev pub of_script : ScriptError → FileError
 of_script (script.Script token) = Script token
-of_script (script.Unbuilt token) = Unbuilt
 of_script (script.Build (build.Full need)) = Room need
 of_script (script.Build e) = OutOfMemory
 
@@ -65,9 +64,3 @@ IsBlock limit live r trees (Ok v) = (block : Option Tree) × (r ≡ Ok block) ×
 IsBlock limit live r trees (Err OutOfMemory) = Unit {0}
 IsBlock limit live r trees (Err (Room need)) = (block : Tree) × (r ≡ Ok (Some block)) × (need ≡ nodes_of block) × (limit < live + need)
 IsBlock limit live r trees (Err e) = (x : ScriptError) × (r ≡ Err x) × (e ≡ of_block x)
-
--- a block is refused so for its certificates
-abbrev pub IsUnbuiltFault : (asks : Bool) → FileError → Type 0
-IsUnbuiltFault asks Unbuilt = asks ≡ true
-IsUnbuiltFault asks OutOfMemory = Unit {0}
-IsUnbuiltFault asks e = ⊥

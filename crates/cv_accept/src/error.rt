@@ -27,8 +27,6 @@ pub enum FileError {
     Query(u32),
     /// The pool has no room for so many nodes more, those of the steps of the file's proof block.
     Room { need: u32 },
-    /// They are a file with a part that isn't checked yet: a step that has no rule.
-    Unbuilt,
     OutOfMemory,
 }
 
@@ -80,7 +78,6 @@ impl From<ScriptError> for FileError {
     fn from(fault: ScriptError) -> FileError {
         match fault {
             ScriptError::Script(token) => FileError::Script(token),
-            ScriptError::Unbuilt(_) => FileError::Unbuilt,
             ScriptError::Build(BuildError::Full { need }) => FileError::Room { need },
             ScriptError::Build(_) => FileError::OutOfMemory,
         }

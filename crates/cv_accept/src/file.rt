@@ -1,11 +1,10 @@
-ghost use Rattle.std.specs.Prelude.{◌≡◌, ◌+◌, ◌<◌, ◌≤◌, ◌^◌, [], ℕ, Some, All, false, length, IfErr, IfOk, IfSome, OnOk, OnErr};
+ghost use Rattle.std.specs.Prelude.{◌≡◌, ◌+◌, ◌<◌, ◌≤◌, ◌^◌, [], ℕ, Some, All, length, IfOk, IfSome, OnOk, OnErr};
 ghost use Rattle.cv_pool.specs.PoolView.{Grows};
 ghost use Rattle.cv_parse.specs.Declaring.{IsBelow};
 ghost use Rattle.cv_syntax_trees.specs.Tree.{size};
 ghost use Rattle.cv_syntax.specs.PoolTrees.{tree_at};
-ghost use Rattle.cv_syntax.specs.Declarations.{declarations};
-ghost use Rattle.cv_accept.specs.Accepted.{asks_unbuilt, block_by, names_by};
-ghost use Rattle.cv_accept.specs.Faults.{IsBlock, IsUnbuiltFault};
+ghost use Rattle.cv_accept.specs.Accepted.{block_by, names_by};
+ghost use Rattle.cv_accept.specs.Faults.{IsBlock};
 ghost use Rattle.cv_accept.specs.Works.{HasSteps, Reads, block_nodes, content_at, content_nodes, script_in};
 
 use crate::error::FileError;
@@ -14,7 +13,6 @@ use cv_directory::Directory;
 use cv_group::check_all;
 use cv_lex::{Tokens, tokens};
 use cv_parse::file;
-use cv_query::kinds::has_unbuilt;
 use cv_query_form::check as check_queries;
 use cv_script::Step;
 use cv_script::reader::script;
@@ -55,7 +53,7 @@ fn read_steps(
     Ok(Some(steps))
 }
 
-/// Reads the proof block of a file, where it has one, as far as its steps are built.
+/// Reads the proof block of a file, where it has one.
 fn read_block(
     alloc: Global,
     work: &mut Work,
@@ -80,31 +78,6 @@ fn read_block(
     }
 }
 
-/// Whether the certificates of a proof block, where there is one, are of a form that is built.
-fn check_certificates(
-    alloc: Global,
-    work: &Work,
-    script: &Option<Vec<Step>>,
-) -> Result<(), FileError>
-    requires declared { All (IsBelow (length work.now.pool.trees)) work.now.decls.list }
-    requires steps { IfSome script.now (λ s.
-        HasSteps work.now.pool.limit work.now.pool.trees s.items) }
-    ensures built { OnOk result (asks_unbuilt
-        (declarations work.now.pool.trees work.now.decls.list)
-        (script_in work.now.pool.trees script.now) ≡ false) }
-    ensures fault { IfErr result (IsUnbuiltFault (asks_unbuilt
-        (declarations work.now.pool.trees work.now.decls.list)
-        (script_in work.now.pool.trees script.now))) }
-{
-    let Some(steps) = script else {
-        return Ok(());
-    };
-    if has_unbuilt(alloc, work, steps)? {
-        return Err(FileError::Unbuilt);
-    }
-    Ok(())
-}
-
 /// Fills an empty work with what bytes hold, where they are a file.
 #[tactic(auto, using(crate::proofs::Lengths::lengths))]
 fn fill(alloc: Global, work: &mut Work, bytes: &[u8]) -> Result<Accepted, FileError>
@@ -127,7 +100,6 @@ fn fill(alloc: Global, work: &mut Work, bytes: &[u8]) -> Result<Accepted, FileEr
     let tokens = tokens(alloc, bytes)?;
     let file = file(alloc, work, &tokens)?;
     let script = read_block(alloc, work, &tokens, file.script)?;
-    check_certificates(alloc, work, &script)?;
     let directory = Directory::of(alloc, &work.pool, &work.decls, file.game.root)?;
     let (nodes, directory) = check_types(alloc, work, &file, directory)?;
     let directory = check_game(alloc, work, file.game, nodes, directory)?;

@@ -1,16 +1,8 @@
-// Proposals of certificates: of correspondences, by what is known at each place of the left event and at each two of them, and of
-// secrecy without pairs; and of the bodies of tests that go, by what is known there.
+// Steps that close queries, and those that drop bodies of tests, as proposals that the kernel may refuse: what a search found, with its
+// terms in the pool.
 #![tactic(auto)]
 
-mod certificates;
-mod pairs;
 mod proposing;
 mod pruning;
-mod queries;
-mod routes;
-mod searching;
 
-pub use certificates::{Certificate, Entry, Pair, Route};
 pub use proposing::Proposer;
-pub use queries::{Atom, Correspondence, RightEvent, correspondence_of};
-pub use searching::{Effort, direct};

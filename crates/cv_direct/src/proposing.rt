@@ -10,8 +10,8 @@ mod shortage;
 use crate::proposing::certificates::{plant_certificate, plant_lines};
 use crate::proposing::shortage::Shortage;
 use crate::pruning::{Unreached, first_unreached};
-use crate::searching::{Effort, direct};
 use cv_closure::Theory;
+use cv_direct_search::{Effort, direct};
 use cv_grounds::{Side, Survey, theory_of};
 use cv_step_writer::{Body, Proposal};
 use cv_syntax::{Decls, Game, NodeId, Pool, PoolError};
@@ -20,14 +20,14 @@ use std::alloc::{AllocError, Global};
 /// How much effort is taken in one game.
 const MOST_EFFORT: u32 = 3_000_000;
 
-/// What searches in one game share: its survey, what the file declares, and how much effort they may still take together, those for
-/// injective correspondences for themselves.
+/// What searches in one game share: its survey, what the file declares, and how much effort they may still take together, those that
+/// need pairs for themselves.
 #[derive(Drop)]
 pub struct Proposer {
     survey: Survey,
     theory: Theory,
     effort: Effort,
-    injective: Effort,
+    by_pairs: Effort,
 }
 
 /// How a step names a body of a test.
@@ -65,7 +65,7 @@ impl Proposer {
             survey: Survey::of(alloc, pool, Game { root: game })?,
             theory: theory_of(alloc, pool, decls)?,
             effort: Effort { left: MOST_EFFORT },
-            injective: Effort { left: MOST_EFFORT },
+            by_pairs: Effort { left: MOST_EFFORT },
         })
     }
 
@@ -88,7 +88,7 @@ impl Proposer {
             &self.theory,
             query,
             &mut self.effort,
-            &mut self.injective,
+            &mut self.by_pairs,
         )?;
         let Some(there) = there else {
             return Ok(None);

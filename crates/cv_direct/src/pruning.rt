@@ -1,7 +1,7 @@
 // The bodies of tests to which no run comes, by what is known there.
-use crate::searching::Effort;
 use cv_closure::Theory;
 use cv_closure_lines::{Derivation, Target, derive};
+use cv_direct_search::Effort;
 use cv_grounds::{Grounds, Part, Survey};
 use cv_syntax::Pool;
 use std::alloc::{AllocError, Global};

@@ -2,7 +2,7 @@
 use Rattle.std.proofs.Common.{◌≡◌, ℕ, zero, suc, get_or, ◌+◌, ◌<◌, ◌≤◌, ◌&&◌, ◌||◌, Bool, true, false, List, [], ◌∷◌, ◌++◌, length, map, drop, take, refl, ap, ap₂, sym, ◌∙◌, subst, arith, append-nil, Option, Some, None, Result, Ok, Err}
 use Rattle.std.proofs.lemmas.Bool.{and_parts, or_parts}
 use Rattle.std.proofs.lemmas.List.{append_assoc, map-append, map_more}
-use Rattle.std.specs.List.{list_all, list_any}
+use Rattle.std.specs.List.{list_all}
 use Rattle.std.specs.Prelude.{All, IfOk}
 use Rattle.cv_accept.proofs.Blocks.{root_grown}
 use Rattle.cv_accept.specs.Accepted.{Content}
@@ -27,20 +27,17 @@ use Rattle.cv_report.specs.declared.report.Status.TheVariants as status
 use Rattle.cv_report.specs.declared.report.Verdict.{Verdict}
 use Rattle.cv_report.specs.declared.report.Which.{Which}
 use Rattle.cv_report.specs.verdicts.Verdicts.{ended_with, verdicts_by}
-use Rattle.cv_query.specs.kinds.Built.{asks_unbuilt, has_unbuilt, is_unbuilt_step}
 use Rattle.cv_scene_view.specs.Kept.{scene_of}
 use Rattle.cv_script.specs.reader.Scripts.{trees_of}
 use Rattle.cv_script.specs.declared.steps.Step.{Step}
-use Rattle.cv_script.specs.Views.{StepItems, items_of_step, name_in, number_in, part_in, tree_in, ◌>>=◌}
+use Rattle.cv_script.specs.Views.{items_of_step}
 use Rattle.cv_steps.specs.Sequences.{scene}
 use Rattle.cv_syntax.specs.Classes.{DeclsView, queries}
 use Rattle.cv_syntax.specs.Declarations.{declarations}
 use Rattle.cv_syntax.specs.declared.work.Work.{Work}
 use Rattle.cv_syntax.specs.PoolTrees.{tree_at}
 use Rattle.cv_syntax_trees.specs.Declarations.{Declaration}
-use Rattle.cv_syntax_trees.specs.declared.head.Head.TheVariants.{BirthdayStep, FreshStep, GuessStep, MergeStep, PruneStep, RewriteStep, UnletStep, UnnewStep}
-use Rattle.cv_syntax_trees.specs.Tree.{Node, Tree}
-use Rattle.cv_syntax_trees.specs.Tree as tree_parts
+use Rattle.cv_syntax_trees.specs.Tree.{Tree}
 use Rattle.cv_follow.specs.declared.searching.Tried.{Tried}
 use Rattle.cv_follow.specs.declared.searching.Tried.TheVariants.{Accepted, Nothing, Passed, Refused}
 use Rattle.cv_follow.specs.declared.walk.Walk.{Walk}
@@ -363,44 +360,3 @@ block_trail before c script queries asked trees w h s l q =
     subst (λ o. HasTrail w.status (map (entry_in trees) w.trail.items) w.verdicts.items (content_nodes c) c asked o) (sym s)
     (subst (λ qs. HasTrail w.status (map (entry_in trees) w.trail.items) w.verdicts.items (content_nodes c) c qs (Some script)) q
     (trail_by (has_word script) before h.room c script h.steps queries trees w h.stands h.walk l))
-
--- steps that settle a game ask for no certificate
-
-bound_built : (queries : List Tree) {A : Type 0} (o : Option A) (f : A → Option StepItems) → ((x : A) → asks_unbuilt queries (f x) ≡ false) → asks_unbuilt queries (o >>= f) ≡ false
-bound_built queries None f g = refl
-bound_built queries (Some x) f g = g x
-
-settling_built : (queries : List Tree) (t : Tree) → settles t ≡ true → is_unbuilt_step queries t ≡ false
-settling_built queries (Node PruneStep a b) e = bound_built queries (number_in a) _ (λ p. bound_built queries (part_in (tree_parts.first b)) _ (λ part. refl))
-settling_built queries (Node MergeStep a b) e = bound_built queries (number_in a) _ (λ p. refl)
-settling_built queries (Node UnnewStep a b) e = bound_built queries (name_in a) _ (λ x. refl)
-settling_built queries (Node UnletStep a b) e = bound_built queries (name_in a) _ (λ x. refl)
-settling_built queries (Node RewriteStep a b) e = bound_built queries (number_in a) _ (λ p. bound_built queries (tree_in (tree_parts.first b)) _ (λ m. refl))
-settling_built queries (Node BirthdayStep a b) e = bound_built queries (name_in a) _ (λ x. refl)
-settling_built queries (Node GuessStep a b) e = bound_built queries (name_in a) _ (λ x. refl)
-settling_built queries (Node FreshStep a b) e = bound_built queries (number_in a) _ (λ p. refl)
-settling_built queries t e = absurd (cc)
-
-any_both : (p : Tree → Bool) (xs ys : List Tree) → list_any p xs ≡ false → list_any p ys ≡ false → list_any p (xs ++ ys) ≡ false
-any_both p [] ys e f = f
-any_both p (x ∷ xs) ys e f = let o = or_parts (p x) (list_any p xs) e in ap₂ ◌||◌ o.0 (any_both p xs ys o.1 f)
-
-all_built : (queries found : List Tree) → list_all settles found ≡ true → has_unbuilt queries found ≡ false
-all_built queries [] e = refl
-all_built queries (t ∷ found) e = let o = and_parts (settles t) (list_all settles found) e in ap₂ ◌||◌ (settling_built queries t o.0) (all_built queries found o.1)
-
-fills_built : (queries script steps : List Tree) → Fills script steps → has_unbuilt queries script ≡ false → has_unbuilt queries steps ≡ false
-fills_built queries _ _ nothing n = refl
-fills_built queries _ _ (itself t script steps e d) n =
-    let o = or_parts (is_unbuilt_step queries t) (has_unbuilt queries script) n in
-    ap₂ ◌||◌ o.0 (fills_built queries script steps d o.1)
-fills_built queries _ _ (settled t found script steps e f d) n =
-    let o = or_parts (is_unbuilt_step queries t) (has_unbuilt queries script) n in
-    any_both (is_unbuilt_step queries) found steps (all_built queries found f) (fills_built queries script steps d o.1)
-
-built_by : (b : Bool) (queries : List Tree) (nodes : ℕ) (script steps : List Tree) (room : ℕ) → StandsBy b nodes script steps room → has_unbuilt queries script ≡ false → has_unbuilt queries steps ≡ false
-built_by false queries nodes script steps room s n = ap (has_unbuilt queries) s.0 ∙ n
-built_by true queries nodes script steps room s n = fills_built queries script steps s n
-
-pub stands_built : (queries : List Tree) (nodes : ℕ) (script steps : List Tree) (room : ℕ) → StandsFor nodes script steps room → has_unbuilt queries script ≡ false → has_unbuilt queries steps ≡ false
-stands_built queries nodes script steps room s n = built_by (has_word script) queries nodes script steps room s n

@@ -1,9 +1,7 @@
 -- Steps that are found, try by try.
-use Rattle.std.proofs.Common.{◌≡◌, ℕ, ◌+◌, ◌<◌, ◌≤◌, ◌||◌, nat_lt, Bool, true, false, List, [], ◌∷◌, ◌++◌, length, map, take, refl, ap, ap₂, sym, ◌∙◌, subst, arith, Some, None, Result, Ok, Err}
-use Rattle.std.proofs.lemmas.Bool.{or_parts}
+use Rattle.std.proofs.Common.{◌≡◌, ℕ, ◌+◌, ◌<◌, ◌≤◌, nat_lt, Bool, true, false, List, [], ◌∷◌, ◌++◌, length, map, take, refl, ap, ap₂, sym, ◌∙◌, subst, arith, Some, None, Result, Ok, Err}
 use Rattle.std.proofs.lemmas.Bool.Decides.{nat_tests}
 use Rattle.std.proofs.lemmas.List.{length-map, take_all}
-use Rattle.std.specs.List.{list_any}
 use Rattle.std.specs.Prelude.{All, IfOk}
 use Rattle.cv_accept.proofs.Blocks.{below_grown, declarations_grown, root_grown}
 use Rattle.cv_accept.specs.Accepted.{most_pool}
@@ -23,7 +21,6 @@ use Rattle.cv_parse.specs.Declaring.{IsBelow}
 use Rattle.cv_pool.proofs.Growth.{Grows_length, Grows_refl, Grows_trans}
 use Rattle.cv_pool.specs.KindTree.{KindTree}
 use Rattle.cv_pool.specs.PoolView.{PoolView, Grows}
-use Rattle.cv_query.specs.kinds.Built.{has_unbuilt, is_unbuilt_step}
 use Rattle.cv_report.specs.declared.report.Entry.{Entry}
 use Rattle.cv_report.specs.declared.report.Status.{Status}
 use Rattle.cv_report.specs.declared.report.Status.TheVariants as status
@@ -207,7 +204,7 @@ module _ (start old mid new : Work) (first : Tree) (allowed : Bool) (s t u : Seq
       (subst (λ (xs : List Tree). Passes n (length xs) (scene ds (known_to start.decls.own) (game_in mid.pool.trees t)) (closed_by i.followed.proof) which) e w))
 
   comes_by : (tried : Tried) (i : HasFound true start mid first t middle) → i.found ≡ h.found → i.followed.proof ≡ h.followed.proof → Comes start mid new first allowed t u middle after i tried → Comes start old new first allowed s u trail after h tried
-  comes_by (Accepted moved) i e p w = record { next = w.next; again = w.again; step = w.step; put = w.put ∙ ap (λ xs. xs ++ w.step ∷ []) e; unbuilt = w.unbuilt; advised = w.advised; told = w.told; may = w.may }
+  comes_by (Accepted moved) i e p w = record { next = w.next; again = w.again; step = w.step; put = w.put ∙ ap (λ xs. xs ++ w.step ∷ []) e; advised = w.advised; told = w.told; may = w.may }
   comes_by Refused i e p w = kept_both old mid new s t u trail middle after k w
   comes_by Nothing i e p w = kept_both old mid new s t u trail middle after k w
   comes_by (Passed which) i e p w = (kept_both old mid new s t u trail middle after k w.0, passes_before which i e p w.1)
@@ -246,10 +243,6 @@ pub steps_counted : {free : Bool} (start now : Work) (first : Tree) (s : Sequenc
 steps_counted start now first s trail h = h.followed.count ∙ (sym (length-map h.followed.proof (λ (x : Transition). x.step)) ∙ ap length (sym h.followed.steps))
 
 -- a step that is accepted is found
-
-any_put : (p : Tree → Bool) (xs : List Tree) (x : Tree) → list_any p xs ≡ false → list_any p (x ∷ []) ≡ false → list_any p (xs ++ x ∷ []) ≡ false
-any_put p [] x e f = f
-any_put p (y ∷ ys) x e f = let o = or_parts (p y) (list_any p ys) e in ap₂ ◌||◌ o.0 (any_put p ys x o.1 f)
 
 module _ {free : Bool} (start old new : Work) (first : Tree) (below : All (IsBelow (length start.pool.trees)) start.decls.list) (s t : Sequence) (trail : List Entry) (h : HasFound free start old first s trail) where
   is_ds : declarations old.pool.trees old.decls.list ≡ declarations start.pool.trees start.decls.list
@@ -307,13 +300,12 @@ module _ {free : Bool} (start old new : Work) (first : Tree) (below : All (IsBel
       stops which i = by_step which tree (stops_by (status.Limit which) i)
 
 module _ (start old new : Work) (first : Tree) (below : All (IsBelow (length start.pool.trees)) start.decls.list) (s t : Sequence) (trail : List Entry) (h : HasFound true start old first s trail) where
-  pub comes_more : (after : List Entry) (tree : Tree) (next : HasFound true start new first t after) → next.found ≡ h.found ++ tree ∷ [] → MayTry new t → has_unbuilt (queries_in (declarations old.pool.trees old.decls.list)) (tree ∷ []) ≡ false → (advised moved allowed : Bool) → moved ≡ is_move advised tree → (moved ≡ true → allowed ≡ true) → Comes start old new first allowed s t trail after h (Accepted moved)
-  comes_more after tree next put again built advised moved allowed e f = record {
+  pub comes_more : (after : List Entry) (tree : Tree) (next : HasFound true start new first t after) → next.found ≡ h.found ++ tree ∷ [] → MayTry new t → (advised moved allowed : Bool) → moved ≡ is_move advised tree → (moved ≡ true → allowed ≡ true) → Comes start old new first allowed s t trail after h (Accepted moved)
+  comes_more after tree next put again advised moved allowed e f = record {
     next = next;
     again = again;
     step = tree;
     put = put;
-    unbuilt = subst (λ ds. has_unbuilt (queries_in ds) (tree ∷ []) ≡ false) (is_ds start old new first below s t trail h) built;
     advised = advised;
     told = e;
     may = f;
@@ -424,7 +416,6 @@ pub search_begins : (w : Work) (moves : ℕ) (s : Sequence) (trail : List Entry)
 unfolding found_none
 search_begins w moves s trail e n m k may = record {
   found = found_none w (game_in w.pool.trees s) s trail e n m k refl;
-  built = refl;
   counted = record { least = omega arith; most = omega arith };
   few = omega arith;
   again = may;
@@ -443,10 +434,8 @@ moves_fit start old new first made moves s t trail after tried below h w e =
 found_more_moves : (start old new : Work) (first : Tree) (made moves : ℕ) (moved : Bool) (s t : Sequence) (trail after : List Entry) → All (IsBelow (length start.pool.trees)) start.decls.list → IsSearching start old first made moves s trail → ComesTo old new (nat_lt made moves) s t trail after (Accepted moved) → IsSearching start new first (moves_more moved made) moves t after
 found_more_moves start old new first made moves moved s t trail after below h w =
     let m = w start first below h.found in
-    let queries : List Tree = queries_in (declarations start.pool.trees start.decls.list) in
     record {
       found = m.next;
-      built = ap (has_unbuilt queries) m.put ∙ any_put (is_unbuilt_step queries) h.found.found m.step h.built m.unbuilt;
       counted = moves_counted h.found.found m.next.found m.step m.advised moved made m.put m.told h.counted;
       few = moves_few moved made moves h.few (λ i. (let l = m.may i in grind (arith, nat_tests)));
       again = m.again;
@@ -455,7 +444,7 @@ found_more_moves start old new first made moves moved s t trail after below h w 
 pub search_on : (start old new : Work) (first : Tree) (made moves : ℕ) (s t : Sequence) (trail after : List Entry) → (h : IsSearching start old first made moves s trail) → IsKept old new s t trail after → IsSearching start new first made moves t after
 search_on start old new first made moves s t trail after h k =
     let a = found_again start old new first s t trail after h.found h.again.stands.live k in
-    record { found = a.again; built = ap (has_unbuilt (queries_in (declarations start.pool.trees start.decls.list))) a.found ∙ h.built; counted = subst (λ (xs : List Tree). AreMoves xs made) (sym a.found) h.counted; few = h.few; again = may_again old new s t trail after h.again k }
+    record { found = a.again; counted = subst (λ (xs : List Tree). AreMoves xs made) (sym a.found) h.counted; few = h.few; again = may_again old new s t trail after h.again k }
 
 -- the search goes on, or ends
 
@@ -494,7 +483,7 @@ search_exhausted start now first made moves s trail h = record { made = made; se
 
 -- what a search leaves
 
-module _ (start now : Work) (first : Tree) (moves : ℕ) (below : All (IsBelow (length start.pool.trees)) start.decls.list) (s : Sequence) (trail : List Entry) (h : HasFound true start now first s trail) (built : has_unbuilt (queries_in (declarations start.pool.trees start.decls.list)) h.found ≡ false) (made : ℕ) (counted : AreMoves h.found made) (few : made ≤ moves) (w : Walk) (put : w.trail.items ≡ trail) (said : w.verdicts.items ≡ verdicts_by (sum_in s.closed) 1 (queries now.decls.list)) where
+module _ (start now : Work) (first : Tree) (moves : ℕ) (below : All (IsBelow (length start.pool.trees)) start.decls.list) (s : Sequence) (trail : List Entry) (h : HasFound true start now first s trail) (made : ℕ) (counted : AreMoves h.found made) (few : made ≤ moves) (w : Walk) (put : w.trail.items ≡ trail) (said : w.verdicts.items ≡ verdicts_by (sum_in s.closed) 1 (queries now.decls.list)) where
   abbrev ds : List Declaration
   ds = declarations start.pool.trees start.decls.list
 
@@ -513,7 +502,6 @@ module _ (start now : Work) (first : Tree) (moves : ℕ) (below : All (IsBelow (
         made = made;
         counted = subst (λ ts. AreMoves ts made) h.followed.steps counted;
         few = few;
-        built = subst (λ ts. has_unbuilt (queries_in ds) ts ≡ false) h.followed.steps built;
         ends = subst (λ ts. EndsSearch moves made (length now.pool.trees) (scene ds (known_to start.decls.own) (game_in now.pool.trees s)) ts (closed_by h.followed.proof) (queries_in ds) w.status) h.followed.steps ends;
       };
       trail = ap (map (entry_in now.pool.trees)) put ∙ h.followed.entries;
@@ -541,7 +529,7 @@ module _ (start now : Work) (first : Tree) (moves : ℕ) (below : All (IsBelow (
 search_leaves : (start now : Work) (first : Tree) (moves : ℕ) (s : Sequence) (trail : List Entry) (ending : Ending) (w : Walk) → All (IsBelow (length start.pool.trees)) start.decls.list → HasEnded start now first moves s trail ending → w.trail.items ≡ trail → w.verdicts.items ≡ verdicts_by (sum_in s.closed) 1 (queries now.decls.list)
     → w.status ≡ status_of moves ending (first_unclosed (numbers_of s.closed) (length w.verdicts.items)) → HasSearched start now first moves w
 search_leaves start now first moves s trail ending w below h put said e =
-    leaves_by start now first moves below s trail h.searching.found h.searching.built h.made h.searching.counted h.searching.few w put said ending h.ended e
+    leaves_by start now first moves below s trail h.searching.found h.made h.searching.counted h.searching.few w put said ending h.ended e
 
 pub searched : {E : Type 0} (start now : Work) (first : Tree) (moves : ℕ) (s : Sequence) (trail : List Entry) (ending : Ending) (closed : List ClosedQuery) → All (IsBelow (length start.pool.trees)) start.decls.list → HasEnded start now first moves s trail ending → closed ≡ s.closed → (r : Result Walk E) → IfOk r (λ w. w.trail.items ≡ trail) → IfOk r (λ w. w.verdicts.items ≡ verdicts_by (sum_in closed) 1 (queries now.decls.list))
     → IfOk r (λ w. w.status ≡ status_of moves ending (first_unclosed (numbers_of closed) (length w.verdicts.items))) → IfOk r (HasSearched start now first moves)

@@ -13,7 +13,6 @@ use Rattle.cv_meaning.specs.Queries.{queries_in}
 use Rattle.cv_parse.specs.Declaring.{IsBelow}
 use Rattle.cv_pool.specs.KindTree.{KindTree}
 use Rattle.cv_pool.specs.PoolView.{PoolView, Grows}
-use Rattle.cv_query.specs.kinds.Built.{has_unbuilt}
 use Rattle.cv_report.specs.declared.report.Cause.TheVariants.{Moves, Stuck}
 use Rattle.cv_report.specs.declared.report.Entry.{Entry}
 use Rattle.cv_report.specs.declared.report.Status.{Status}
@@ -80,8 +79,8 @@ pub data EndsSearch (moves made taken : ℕ) (s : Scene) (found : List Tree) (cl
   without_more : EndsSearch moves made taken s found closed queries (end_of_search moves made (first_open closed 1 queries))
   by_limit : (which : Which) → Passes taken (length found) s closed which → EndsSearch moves made taken s found closed queries (status.Limit which)
 
--- Steps were found from a first game on: each is accepted in turn, no more of them were counted as moves than are allowed, and each
--- certificate among them is of a form that is built. The pool has so many nodes where the search ends.
+-- Steps were found from a first game on: each is accepted in turn, and no more of them were counted as moves than are allowed. The pool
+-- has so many nodes where the search ends.
 pub record Finds (taken moves : ℕ) (ds : List Declaration) (own : ℕ) (first : Tree) (end : Status) : Type 0 where
   pub proof : List Transition
   pub last : Tree
@@ -89,7 +88,6 @@ pub record Finds (taken moves : ℕ) (ds : List Declaration) (own : ℕ) (first 
   pub made : ℕ
   pub counted : AreMoves (map (λ t. t.step) proof) made
   pub few : made ≤ moves
-  pub built : has_unbuilt (queries_in ds) (map (λ t. t.step) proof) ≡ false
   pub ends : EndsSearch moves made taken (scene ds (known_to own) last) (map (λ t. t.step) proof) (closed_by proof) (queries_in ds) end
 
 -- what a search leaves
@@ -137,7 +135,6 @@ pub record IsFoundMore (start now : Work) (first : Tree) (allowed : Bool) (found
   pub again : MayTry now s
   pub step : Tree
   pub put : next.found ≡ found ++ step ∷ []
-  pub unbuilt : has_unbuilt (queries_in (declarations start.pool.trees start.decls.list)) (step ∷ []) ≡ false
   pub advised : Bool
   pub told : moved ≡ is_move advised step
   pub may : moved ≡ true → allowed ≡ true
@@ -186,10 +183,9 @@ abbrev pub ComesFrom : (n : ℕ) → (old new : Work) → (allowed : Bool) → (
 ComesFrom n old new allowed s t trail after tried =
     ComesTo (with_names n old) (without_drawn tried n new) allowed s t trail after tried
 
--- while a search goes on: so many of the steps that were found were counted as moves, and each certificate is of a form that is built
+-- while a search goes on: so many of the steps that were found were counted as moves
 pub record IsSearching (start now : Work) (first : Tree) (made moves : ℕ) (s : Sequence) (trail : List Entry) : Type 0 where
   pub found : HasFound true start now first s trail
-  pub built : has_unbuilt (queries_in (declarations start.pool.trees start.decls.list)) found.found ≡ false
   pub counted : AreMoves found.found made
   pub few : made ≤ moves
   pub again : MayTry now s

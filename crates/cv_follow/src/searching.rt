@@ -21,7 +21,6 @@ use crate::naming::with_drawn;
 use crate::walk::{Walk, note};
 use cv_bound::closings::ClosedQueries;
 use cv_kernel::{PushError, Sequence};
-use cv_query::kinds::has_unbuilt;
 use cv_report::verdicts::verdicts_of;
 use cv_report::{Cause, Entry, Status, Which};
 use cv_script::Step;
@@ -83,8 +82,8 @@ fn tried_by(fault: PushError) -> Option<Tried>
     }
 }
 
-/// Takes a step that was written, where it is accepted: it goes on the trail. A certificate of a form that isn't built is
-/// none, and a move comes only where one is allowed. Names that were drawn for it are in the table, and are left there.
+/// Takes a step that was written, where it is accepted: it goes on the trail. A move comes only where one is allowed. Names
+/// that were drawn for it are in the table, and are left there.
 #[tactic(auto, using(crate::proofs::Growing::growing))]
 fn take(
     alloc: Global,
@@ -109,11 +108,6 @@ fn take(
 {
     let moved = is_move(&work.pool, step, advised);
     if moved && !may_move {
-        return Ok(Tried::Refused);
-    }
-    let steps = [step];
-    let unbuilt = has_unbuilt(alloc, work, &steps)?;
-    if unbuilt {
         return Ok(Tried::Refused);
     }
     match sequence.push(alloc, work, step) {

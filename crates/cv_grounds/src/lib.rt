@@ -16,6 +16,6 @@ pub use lateness::Lateness;
 pub use nodes::{binders, items, nodes_up_to, open};
 pub use pairs::{Copies, End};
 pub use planting::plant_terms;
-pub use survey::{Event, Known, Link, Part, Side, Survey};
+pub use survey::{Definition, Event, Known, Link, Part, Side, Survey};
 pub use theories::theory_of;
 pub use translating::{Given, translate};

@@ -1,9 +1,10 @@
 // What is known at two places of a game, of each of which a copy is reached in one run.
 use crate::grounds::Grounds;
+use crate::nodes::items;
 use crate::survey::Survey;
-use crate::translating::{Given, transfer};
+use crate::translating::{Given, transfer, translate};
 use cv_closure::{Closure, Source, Standing, TermId, Terms, Theory};
-use cv_syntax::{Head, Pool};
+use cv_syntax::{Head, NodeId, Pool};
 use std::alloc::{AllocError, Global};
 
 /// Where a route ends: at an event's place, at these terms for the replications above it, over a table of their own.
@@ -12,6 +13,24 @@ pub struct End {
     pub place: u32,
     pub table: Terms,
     pub indices: Vec<TermId>,
+}
+
+/// The terms of a list as those of a closure, with terms for names; fewer, the first ones, where the closure is full.
+fn translate_all(
+    alloc: Global,
+    closure: &mut Closure,
+    pool: &Pool,
+    given: &Given,
+    list: Option<NodeId>,
+) -> Result<Vec<TermId>, AllocError> {
+    let mut terms = Vec::new(alloc);
+    for n in &items(alloc, pool, list)? {
+        let Some(term) = translate(alloc, closure, pool, given, *n)? else {
+            return Ok(terms);
+        };
+        terms.push(term)?;
+    }
+    Ok(terms)
 }
 
 /// The closure of what is known at two places, the indices of the first place, and those of the second one with their marks. Facts
@@ -63,6 +82,35 @@ impl Copies {
         }
     }
 
+    /// Takes the equations between terms of both copies as given, in order, and takes what follows.
+    fn give_all(
+        &mut self,
+        theory: &Theory,
+        ms: &[TermId],
+        ns: &[TermId],
+    ) -> Result<(), AllocError> {
+        for (k, (m, n)) in ms.iter().zip(ns).enumerate() {
+            let number = u32::try_from(k).unwrap_or(u32::MAX).saturating_add(1);
+            self.give_one(number, *m, *n)?;
+        }
+        self.grounds.closure.saturate(theory)
+    }
+
+    /// Takes as given that two lists of terms are equal, one at the first place and one at the second; and takes what follows.
+    pub fn give_terms(
+        &mut self,
+        alloc: Global,
+        pool: &Pool,
+        theory: &Theory,
+        terms: Option<NodeId>,
+        others: Option<NodeId>,
+    ) -> Result<(), AllocError> {
+        let closure = &mut self.grounds.closure;
+        let ms = translate_all(alloc, closure, pool, &self.first, terms)?;
+        let ns = translate_all(alloc, closure, pool, &self.second, others)?;
+        self.give_all(theory, &ms, &ns)
+    }
+
     /// Takes as given that two routes end alike, one from the first place and one from the second; and takes what follows.
     pub fn give(
         &mut self,
@@ -74,11 +122,7 @@ impl Copies {
         let closure = &mut self.grounds.closure;
         let ms = transfer(alloc, closure, &self.first, &end.table, &end.indices)?;
         let ns = transfer(alloc, closure, &self.second, &other.table, &other.indices)?;
-        for (k, (m, n)) in ms.iter().zip(&ns).enumerate() {
-            let number = u32::try_from(k).unwrap_or(u32::MAX).saturating_add(1);
-            self.give_one(number, *m, *n)?;
-        }
-        self.grounds.closure.saturate(theory)
+        self.give_all(theory, &ms, &ns)
     }
 
     /// The outermost indices of the first place with those of the second one, so many.

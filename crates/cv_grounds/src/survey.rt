@@ -1,5 +1,5 @@
-// What is known at each place of a game, the sites of variables, the arrays that are chosen at random, the events, and the bodies of
-// tests.
+// What is known at each place of a game, the sites of variables, the arrays that are chosen at random, the events, the definitions by
+// terms, and the bodies of tests.
 use crate::lateness::Lateness;
 use crate::nodes::{binders, items, open};
 use cv_scope_rules::Position;
@@ -61,6 +61,15 @@ pub struct Event {
     pub last: u32,
 }
 
+/// A definition of a variable by a term: the variable, its place, the term, and what is known there.
+#[derive(Clone, Copy)]
+pub struct Definition {
+    pub variable: u32,
+    pub place: u32,
+    pub term: Option<NodeId>,
+    pub last: u32,
+}
+
 /// Which body of a test: one of an `if`, or that of the branch of a number, from 1.
 #[derive(Clone, Copy)]
 pub enum Side {
@@ -97,6 +106,7 @@ pub struct Survey {
     sites: HashMap<u32, Site>,
     arrays: Vec<u32>,
     events: Vec<Event>,
+    definitions: Vec<Definition>,
     parts: Vec<Part>,
     lateness: Lateness,
     place: u32,
@@ -111,6 +121,7 @@ impl Survey {
             sites: HashMap::new(alloc),
             arrays: Vec::new(alloc),
             events: Vec::new(alloc),
+            definitions: Vec::new(alloc),
             parts: Vec::new(alloc),
             lateness: Lateness::of(alloc, pool, game.root)?,
             place: 0,
@@ -130,6 +141,11 @@ impl Survey {
     /// The events, in the order of their places.
     pub fn events(&self) -> &[Event] {
         &self.events
+    }
+
+    /// The definitions by terms, in the order of their places.
+    pub fn definitions(&self) -> &[Definition] {
+        &self.definitions
     }
 
     /// The bodies of tests, in the order of their places.
@@ -182,6 +198,14 @@ impl Survey {
     /// The choices at random that are known, from the newest to the oldest.
     pub fn choices(&self, last: u32) -> Result<Vec<Link>, AllocError> {
         self.chain(last, true)
+    }
+
+    /// Whether all definitions of a variable choose at random, of one type.
+    pub fn is_random(&self, variable: u32) -> bool {
+        match self.sites.get(&variable) {
+            Some(site) => site.choice.is_some(),
+            None => false,
+        }
     }
 
     /// Whether all definitions of a variable choose at random of one of these types.
@@ -417,15 +441,29 @@ impl Survey {
         Ok(next)
     }
 
-    /// Notes an event at its place.
-    fn note_event(&mut self, walk: Walk, node: Opened) -> Result<(), AllocError> {
-        if let Head::Event(event) = node.head {
-            self.events.push(Event {
-                event,
-                place: self.place,
-                arguments: node.first,
-                last: walk.last,
-            })?;
+    /// Notes an event, or a definition by a term, at its place.
+    fn visit(&mut self, walk: Walk, node: Opened) -> Result<(), AllocError> {
+        let (place, last) = (self.place, walk.last);
+        match node.head {
+            Head::Event(event) => {
+                let arguments = node.first;
+                self.events.push(Event {
+                    event,
+                    place,
+                    arguments,
+                    last,
+                })?;
+            }
+            Head::Let(variable, _) => {
+                let term = node.first;
+                self.definitions.push(Definition {
+                    variable,
+                    place,
+                    term,
+                    last,
+                })?;
+            }
+            _ => {}
         }
         Ok(())
     }
@@ -442,7 +480,7 @@ impl Survey {
                 return Ok(());
             };
             let place = self.place;
-            self.note_event(walk, node)?;
+            self.visit(walk, node)?;
             self.place = self.place.saturating_add(node.head.weight());
             if let Some(child) = node.first {
                 if child.0 >= start.0 {

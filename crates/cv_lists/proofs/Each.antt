@@ -2,8 +2,7 @@
 use Rattle.std.proofs.Common.{◌≡◌, ℕ, zero, suc, ◌<◌, Bool, true, false, List, [], ◌∷◌, ◌++◌, length, map, take, get_or, refl, ap₂, arith}
 use Rattle.std.specs.Prelude.{◌||◌}
 use Rattle.std.specs.List.{AllByRecursion, flat_map, list_any, list_all}
-use Rattle.std.proofs.lemmas.Bool.{both_ways, and_from, and_parts, or_parts}
-use Rattle.cv_lists.proofs.Tests.{or_weaker}
+use Rattle.std.proofs.lemmas.Bool.{both_ways, or_parts}
 
 pub AllByRecursion_weaker : {A : Type 0} (P Q : A → Type 0) → ((x : A) → P x → Q x) → (xs : List A) → AllByRecursion P xs → AllByRecursion Q xs
 AllByRecursion_weaker P Q f [] a = tt
@@ -56,10 +55,6 @@ AllByRecursion_flat_map Q P f h (x ∷ xs) a = AllByRecursion_append P (f x) (fl
 pub list_any_append : {A : Type 0} (p : A → Bool) (xs ys : List A) → list_any p (xs ++ ys) ≡ false → (list_any p xs ≡ false) × (list_any p ys ≡ false)
 list_any_append p [] ys e = (refl, e)
 list_any_append p (x ∷ xs) ys e = let d = or_parts (p x) _ e in let r = list_any_append p xs ys d.1 in (ap₂ ◌||◌ d.0 r.0, r.1)
-
-pub list_all_weaker : {A : Type 0} (p q : A → Bool) → ((x : A) → p x ≡ true → q x ≡ true) → (xs : List A) → list_all p xs ≡ true → list_all q xs ≡ true
-list_all_weaker p q f [] e = refl
-list_all_weaker p q f (x ∷ xs) e = let r = and_parts (p x) _ e in and_from (q x) _ (f x r.0) (list_all_weaker p q f xs r.1)
 
 pub AllByRecursion_parts : {A : Type 0} (P : A → Type 0) (xs ys : List A) → AllByRecursion P (xs ++ ys) → AllByRecursion P xs × AllByRecursion P ys
 AllByRecursion_parts P [] ys k = (tt, k)

@@ -34,10 +34,6 @@ pub not_or : (a b : Bool) → not (a || b) ≡ (not a && not b)
 not_or true b = refl
 not_or false b = refl
 
-pub or_weaker : (a x y : Bool) → (x ≡ true → y ≡ true) → (a || x) ≡ true → (a || y) ≡ true
-or_weaker true x y f e = refl
-or_weaker false x y f e = f e
-
 -- the sides of a conjunction that passes, and of a disjunction that doesn't
 
 pub and_first : (a b : Bool) → (a && b) ≡ true → a ≡ true

@@ -1,7 +1,7 @@
 -- Correspondences, and when a list of events breaks one. Blanchet, CSF 2007.
 use Rattle.std.specs.Prelude.{ℕ, suc, ◌+◌, Bool, true, false, ◌&&◌, not, ◌==◌, if◌then◌else◌, List, [], ◌∷◌, ◌++◌, filter, flat_map, map, zip}
 use Rattle.std.specs.List.{list_any, list_all}
-use Rattle.cv_syntax_trees.specs.declared.head.Head.TheVariants.{Occurs, OccursOnce, Leaf, Binder, AllOf, SomeOf}
+use Rattle.cv_syntax_trees.specs.declared.head.Head.TheVariants.{Cons, Occurs, OccursOnce, Leaf, Binder, SomeOf}
 use Rattle.cv_syntax_trees.specs.Tree.{Tree, Empty, Node, first, second, reads_only}
 use Rattle.cv_meaning.specs.Tapes.{same_tuple}
 use Rattle.cv_meaning.specs.Interpretation.{Setting}
@@ -28,18 +28,12 @@ atom_of (Node (Occurs e) a b) = RightEvent false e a
 atom_of (Node (OccursOnce e) a b) = RightEvent true e a
 atom_of m = RightTerm m
 
-abbrev pub atoms_of : Tree → List Atom
-atoms_of Empty = []
-atoms_of (Node h a b) = atom_of a ∷ atoms_of b
-
--- the alternatives of a right side; its atoms count in the order of the text
-
-abbrev pub numbered : ℕ → List Atom → List (ℕ × Atom)
-numbered n [] = []
-numbered n (c ∷ cs) = (n, c) ∷ numbered (suc n) cs
+-- A right side is `SomeOf` of two, one of which must be met, or a list of which each item must be: an atom, or a right
+-- side in parentheses. Its atoms count in the order of the text.
 
 abbrev pub atom_count : Tree → ℕ
-atom_count (Node AllOf a b) = atom_count a + atom_count b
+atom_count Empty = 0
+atom_count (Node Cons a b) = atom_count a + atom_count b
 atom_count (Node SomeOf a b) = atom_count a + atom_count b
 atom_count m = 1
 
@@ -47,17 +41,15 @@ atom_count m = 1
 abbrev pub each_with : List (List (ℕ × Atom)) → List (List (ℕ × Atom)) → List (List (ℕ × Atom))
 each_with xs ys = flat_map (λ x. map (λ y. x ++ y) ys) xs
 
--- where the first atom has this number
+-- the alternatives, where the first atom has this number
 abbrev pub alternatives_from : ℕ → Tree → List (List (ℕ × Atom))
-alternatives_from n (Node AllOf a b) = each_with (alternatives_from n a) (alternatives_from (n + atom_count a) b)
+alternatives_from n Empty = [] ∷ []
+alternatives_from n (Node Cons a b) = each_with (alternatives_from n a) (alternatives_from (n + atom_count a) b)
 alternatives_from n (Node SomeOf a b) = alternatives_from n a ++ alternatives_from (n + atom_count a) b
 alternatives_from n m = ((n, atom_of m) ∷ []) ∷ []
 
--- a right side without `||` and parentheses is a list of atoms, its only alternative
 abbrev pub alternatives_of : Tree → List (List (ℕ × Atom))
-alternatives_of (Node AllOf a b) = alternatives_from 1 (Node AllOf a b)
-alternatives_of (Node SomeOf a b) = alternatives_from 1 (Node SomeOf a b)
-alternatives_of m = numbered 1 (atoms_of m) ∷ []
+alternatives_of right = alternatives_from 1 right
 
 abbrev pub event_of : Tree → ℕ
 event_of (Node (Occurs e) a b) = e

@@ -102,7 +102,7 @@ abbrev pub right_atom : Bool → ℕ → Tree
 right_atom inj f = occurs inj f (leaf 1 ∷ [])
 
 abbrev pub one_of : Bool → ℕ → ℕ → Tree
-one_of inj f e = Node SomeOf (right_atom inj f) (right_atom inj e)
+one_of inj f e = Node SomeOf (chain (right_atom inj f ∷ [])) (chain (right_atom inj e ∷ []))
 
 abbrev pub query_with : Bool → Tree → Tree
 query_with inj right = Node Query (binders ((1, 5) ∷ [])) (Node Cons (occurs inj 12 (leaf 1 ∷ [])) right)

@@ -5,7 +5,7 @@ pub mod adequacy;
 
 ghost use Rattle.std.specs.Prelude.{◌≡◌, ℕ, ◌-◌, Bool, List, [], ◌∷◌, map, true, false};
 ghost use Rattle.std.specs.List.{AllByRecursion, IsDistinct};
-ghost use Rattle.cv_syntax_trees.specs.declared.head.Head.TheVariants.{AllOf, Secret, SecretOnce};
+ghost use Rattle.cv_syntax_trees.specs.declared.head.Head.TheVariants.{Secret, SecretOnce};
 ghost use Rattle.cv_syntax_trees.specs.Tree.{Tree, Node, chain, lone, reads_only};
 ghost use Rattle.cv_meaning.specs.Tapes.{Tape, same_cell, cells_of};
 ghost use Rattle.cv_meaning.specs.Side.{Side};
@@ -127,7 +127,7 @@ pub fn worked_alternatives()
         ≡ ((1, RightEvent true 11 (chain (leaf 1 ∷ []))) ∷ [])
         ∷ ((2, RightEvent true 13 (chain (leaf 1 ∷ []))) ∷ []) ∷ [] }
     ensures both { map (map (λ c. c.0))
-        (alternatives_of (Node AllOf (one_of false 11 13) (one_of false 11 13)))
+        (alternatives_of (chain (one_of false 11 13 ∷ one_of false 11 13 ∷ [])))
         ≡ (1 ∷ 3 ∷ []) ∷ (1 ∷ 4 ∷ []) ∷ (2 ∷ 3 ∷ []) ∷ (2 ∷ 4 ∷ []) ∷ [] }
 
     ensures first_way { advantage (sized 2 1 1) (query_with false (one_of false 11 13))

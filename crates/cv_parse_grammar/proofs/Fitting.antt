@@ -2,7 +2,7 @@
 use Rattle.std.proofs.Common.{◌≡◌, true, refl}
 use Rattle.cv_parse_notation.specs.Fits.{fits, fitting}
 use Rattle.cv_parse_grammar.specs.Marks.{marked_rule, marked_tails}
-use Rattle.cv_parse_grammar.specs.Phrases.{Sort, Term, Conjunction, Primary, Unequal, Arguments, Subscript, Parentheses, Inputs, Input, Output, Pattern, Sending, Payload, Variables, Indices, ProcessBranch, Cells, OneCell, Body, BodyBranch, LeftFunction, RightFunction, RightRest, Braces}
+use Rattle.cv_parse_grammar.specs.Phrases.{Sort, Term, Conjunction, Primary, Unequal, Arguments, Subscript, Parentheses, Inputs, Input, Output, Pattern, Sending, Payload, Variables, Indices, ProcessBranch, Cells, OneCell, Body, BodyBranch, LeftFunction, RightFunction, RightRest, RightSide, Braces}
 use Rattle.cv_parse_grammar.specs.Rules.{rule, heads, tails, file}
 
 pub all_fit : (s : Sort) → fitting heads tails rule s ≡ true
@@ -29,6 +29,7 @@ all_fit BodyBranch = refl
 all_fit LeftFunction = refl
 all_fit RightFunction = refl
 all_fit RightRest = refl
+all_fit RightSide = refl
 all_fit Braces = refl
 
 pub file_fits : fits heads tails file ≡ true
@@ -58,4 +59,5 @@ all_marked_fit BodyBranch = refl
 all_marked_fit LeftFunction = refl
 all_marked_fit RightFunction = refl
 all_marked_fit RightRest = refl
+all_marked_fit RightSide = refl
 all_marked_fit Braces = refl

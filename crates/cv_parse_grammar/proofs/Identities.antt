@@ -23,7 +23,7 @@ use Rattle.cv_parse_grammar.specs.Identities.{AreDistinct, declared_as, declared
 use Rattle.cv_parse_grammar.specs.Equivalences.{group}
 use Rattle.cv_parse_grammar.specs.Files.{IsFile, levels}
 use Rattle.cv_parse_grammar.specs.Names.{AreNamed, Uses, declares, is_declared, is_used, obeys}
-use Rattle.cv_parse_grammar.specs.Phrases.{Sort, Phrase, Term, Conjunction, Primary, Unequal, Arguments, Subscript, Parentheses, Inputs, Input, Output, Pattern, Sending, Payload, Variables, Indices, ProcessBranch, Cells, OneCell, Body, BodyBranch, LeftFunction, RightFunction, RightRest, Braces, inside, listed, row, type_name, typed}
+use Rattle.cv_parse_grammar.specs.Phrases.{Sort, Phrase, Term, Conjunction, Primary, Unequal, Arguments, Subscript, Parentheses, Inputs, Input, Output, Pattern, Sending, Payload, Variables, Indices, ProcessBranch, Cells, OneCell, Body, BodyBranch, LeftFunction, RightFunction, RightRest, RightSide, Braces, inside, listed, row, type_name, typed}
 use Rattle.cv_parse_grammar.specs.Processes.{inputs}
 use Rattle.cv_parse_grammar.specs.Rules.{File, file, heads, proof_block, rule}
 use Rattle.cv_parse_grammar.specs.Terms.{term}
@@ -117,6 +117,7 @@ sort_quiet BodyBranch = refl
 sort_quiet LeftFunction = refl
 sort_quiet RightFunction = refl
 sort_quiet RightRest = refl
+sort_quiet RightSide = refl
 sort_quiet Braces = refl
 
 sorts_quiet : (n : ℕ) (s : Sort) → Quiet (IsSort heads rule n s)

@@ -5,16 +5,16 @@ use Rattle.cv_syntax_trees.specs.Tree.{Tree, Empty, Node, lone, chain, names}
 use Rattle.cv_syntax_trees.specs.Declarations.{Declaration, Named, Equation, Equiv, Query}
 use Rattle.cv_syntax_trees.specs.declared.class.Class.{Class}
 use Rattle.cv_syntax_trees.specs.declared.class.Class.TheVariants as class
-use Rattle.cv_syntax_trees.specs.declared.head.Head.TheVariants.{Cons, Forall, Query as Correspondence, Occurs, OccursOnce, Secret, SecretOnce, Equivalence}
+use Rattle.cv_syntax_trees.specs.declared.head.Head.TheVariants.{Cons, Forall, Query as Correspondence, Occurs, OccursOnce, SomeOf, Secret, SecretOnce, Equivalence}
 use Rattle.cv_parse_notation.specs.declared.sign.Mark.TheVariants as mark
-use Rattle.cv_parse_notation.specs.Form.{sign, word, unnamed, may, either, made, ◌&◌, ◌▸◌, ◌◂◌}
+use Rattle.cv_parse_notation.specs.Form.{sign, word, unnamed, may, either, made, level, deeper, ◌&◌, ◌▸◌, ◌◂◌}
 use Rattle.cv_parse_grammar.specs.declared.role.TypeOption.{TypeOption}
 use Rattle.cv_parse_grammar.specs.declared.role.TypeOption.TheVariants.{Fixed, Large, Bounded}
 use Rattle.cv_parse_grammar.specs.declared.role.Asked.TheVariants.{AParam, AChannel, AFunction, AnEvent, AProbability, AnEquivalence, AType}
 use Rattle.cv_parse_grammar.specs.declared.role.Region.TheVariants.{InEquation, InQuery, InEquivalence}
 use Rattle.cv_parse_grammar.specs.declared.role.Role.{Role}
 use Rattle.cv_parse_grammar.specs.declared.role.Role.TheVariants.{Declares, Asks, BindsLocal, Unchecked}
-use Rattle.cv_parse_grammar.specs.Phrases.{Phrase, LeftFunction, RightFunction, or_else, row, bracket, square, listed, type_name, typed, vars, inside}
+use Rattle.cv_parse_grammar.specs.Phrases.{Phrase, LeftFunction, RightFunction, RightSide, or_else, row, bracket, square, listed, type_name, typed, vars, inside}
 use Rattle.cv_parse_grammar.specs.Terms.{arguments, equality, term}
 use Rattle.cv_parse_grammar.specs.Equivalences.{group, lone_group}
 
@@ -124,10 +124,30 @@ happens = mark.EventWord ▸ (word (Asks AnEvent) & listed arguments)
 abbrev pub event : Phrase Tree
 event = either (made (λ (e, l). Node (OccursOnce e) l Empty) (mark.Inj ▸ happens)) (made (λ (e, l). Node (Occurs e) l Empty) happens)
 
+-- The right side of a correspondence has alternatives, and each of them items: events, equalities, and right sides in parentheses.
+
+abbrev pub right_item : Phrase Tree
+right_item = either (deeper RightSide) (either event equality)
+
+abbrev pub alternative : Phrase Tree
+alternative = made chain (row mark.Both right_item)
+
+-- one of these, nested to the right
+abbrev pub some_of : List Tree → Tree
+some_of [] = Empty
+some_of (t ∷ []) = t
+some_of (t ∷ (u ∷ ts)) = Node SomeOf t (some_of (u ∷ ts))
+
+abbrev pub right_side : Phrase Tree
+right_side = made some_of (row mark.Either alternative)
+
+abbrev pub bracketed_right_side : Phrase Tree
+bracketed_right_side = level (mark.OpenAtoms ▸ right_side ◂ mark.Close)
+
 abbrev pub correspondence : Phrase Tree
 correspondence =
-    made (λ (l, (e, atoms)). Node Correspondence l (Node Cons e (chain atoms))) (
-    listed (vars BindsLocal ◂ mark.Semicolon) & (event & (mark.Implies ▸ row mark.Both (either event equality)))
+    made (λ (l, (e, right)). Node Correspondence l (Node Cons e right)) (
+    listed (vars BindsLocal ◂ mark.Semicolon) & (event & (mark.Implies ▸ right_side))
     )
 
 abbrev pub secrecy : Phrase Tree

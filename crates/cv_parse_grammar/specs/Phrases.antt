@@ -17,6 +17,8 @@ pub data Sort : Type 0 where
   Inputs Input Output Pattern Sending Payload Variables Indices ProcessBranch Cells OneCell : Sort
   -- of equivalences
   Body BodyBranch LeftFunction RightFunction RightRest : Sort
+  -- of queries
+  RightSide : Sort
   -- of the proof block
   Braces : Sort
 

@@ -7,11 +7,11 @@ use Rattle.cv_parse_notation.specs.Form.{other, note, may, many, either, made, l
 use Rattle.cv_parse_notation.specs.Spells.{Kind, is_mark, starts}
 use Rattle.cv_parse_grammar.specs.declared.role.Region.TheVariants.{InProcess}
 use Rattle.cv_parse_grammar.specs.declared.role.Role.TheVariants.{Nothing}
-use Rattle.cv_parse_grammar.specs.Phrases.{Sort, Phrase, Term, Conjunction, Primary, Unequal, Arguments, Subscript, Parentheses, Inputs, Input, Output, Pattern, Sending, Payload, Variables, Indices, ProcessBranch, Cells, OneCell, Body, BodyBranch, LeftFunction, RightFunction, RightRest, Braces, inside}
+use Rattle.cv_parse_grammar.specs.Phrases.{Sort, Phrase, Term, Conjunction, Primary, Unequal, Arguments, Subscript, Parentheses, Inputs, Input, Output, Pattern, Sending, Payload, Variables, Indices, ProcessBranch, Cells, OneCell, Body, BodyBranch, LeftFunction, RightFunction, RightRest, RightSide, Braces, inside}
 use Rattle.cv_parse_grammar.specs.Terms.{arguments, subscript, parentheses, primary, unequal, conjunction, term, cell, cells}
 use Rattle.cv_parse_grammar.specs.Processes.{channel_indices, input, inputs, pattern, variables, sending, payload, branch, output}
 use Rattle.cv_parse_grammar.specs.Equivalences.{body, body_branch, left_function, right_function, right_rest}
-use Rattle.cv_parse_grammar.specs.Declarations.{declaration}
+use Rattle.cv_parse_grammar.specs.Declarations.{bracketed_right_side, declaration}
 
 -- what a file holds: its declarations, its proof block and its process
 pub record File : Type 0 where
@@ -62,6 +62,7 @@ rule BodyBranch = body_branch
 rule LeftFunction = left_function
 rule RightFunction = right_function
 rule RightRest = right_rest
+rule RightSide = bracketed_right_side
 rule Braces = braces
 
 -- how the phrases of a sort begin

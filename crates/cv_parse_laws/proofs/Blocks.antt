@@ -154,6 +154,7 @@ bare_rows sort.BodyBranch e = refl
 bare_rows sort.LeftFunction e = refl
 bare_rows sort.RightFunction e = refl
 bare_rows sort.RightRest e = refl
+bare_rows sort.RightSide e = refl
 bare_rows sort.Braces e = absurd (cc)
 
 sorts_pass : (n : ℕ) (s : Sort) → is_bare_sort s ≡ true → Passes (IsSort heads rule n s)

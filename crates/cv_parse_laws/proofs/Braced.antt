@@ -19,7 +19,7 @@ use Rattle.cv_parse_notation.specs.Spells.{is_mark, kind_of}
 use Rattle.cv_parse_notation.proofs.Sound.{same_mark_eq}
 use Rattle.cv_parse_tables.specs.terminals.Braces.{closes, file_tokens, is_end, is_read, open_behind, opens, read_at, read_from, semicolon}
 use Rattle.cv_parse_tables.specs.terminals.Signs.{Tells, signs_of}
-use Rattle.cv_parse_tables.specs.spelling.Spelling.{mark_of_text, spelling}
+use Rattle.cv_parse_tables.specs.spelling.Spelling.{as_told, mark_of_text, spelling}
 use Rattle.cv_parse_tables.proofs.terminals.FileTokens.{are_read, length_read_from}
 use Rattle.cv_parse_tables.proofs.terminals.Naming.{text_test}
 use Rattle.cv_parse_tables.proofs.spelling.Table.{found}
@@ -40,11 +40,28 @@ Alike ts [] = Unit {0}
 Alike [] (s ∷ ss) = ⊥
 Alike (t ∷ ts) (s ∷ ss) = IsAlike t.text s × Alike ts ss
 
+-- a mark whose text tells it alone
+record IsAlone (b : Mark) : Type 0 where
+  told : as_told b ≡ b
+  alone : (m : Mark) → as_told m ≡ b → m ≡ b
+
+opening_alone : IsAlone mark.OpenBrace
+opening_alone = record { told = refl; alone = alone } where
+  alone : (m : Mark) → as_told m ≡ mark.OpenBrace → m ≡ mark.OpenBrace
+  alone mark.OpenAtoms e = absurd (cc)
+  alone m e = e
+
+closing_alone : IsAlone mark.CloseBrace
+closing_alone = record { told = refl; alone = alone } where
+  alone : (m : Mark) → as_told m ≡ mark.CloseBrace → m ≡ mark.CloseBrace
+  alone mark.OpenAtoms e = absurd (cc)
+  alone m e = e
+
 -- the text of a mark is a brace where the mark is that brace
-mark_alike : (m b : Mark) → bytes_eq (spelling m) (spelling b) ≡ same_mark m b
-mark_alike m b =
+mark_alike : (m b : Mark) → IsAlone b → bytes_eq (spelling m) (spelling b) ≡ same_mark m b
+mark_alike m b only =
     elim (text_test (spelling m) (spelling b)) [
-      | inl a ↦ let e : m ≡ b = (let f = found m in let g = found b in let h = ap mark_of_text a.1 in cc) in
+      | inl a ↦ let e : m ≡ b = only.alone m (let f = found m in let g = found b in let h = ap mark_of_text a.1 in let k = only.told in cc) in
           a.0 ∙ sym (subst (λ k. same_mark k b ≡ true) (sym e) (same_self b))
       | inr a ↦ a ∙ sym (false_from_ne_true (same_mark m b) (λ e. let f = ap spelling (same_mark_eq m b e) in let g : bytes_eq (spelling m) (spelling b) ≡ true = (bytes_eq-Decides (spelling m) (spelling b)).1 f in cc))
     ]
@@ -77,7 +94,7 @@ told_alike names t (sign.Word n w) is h = record { opens = no_mark_alike t.text 
 told_alike names t (sign.Number v) is h = number_alike t.text v (subst (λ k. IsToken k t.text) h is)
 told_alike names t (sign.Find n) is h = subst (λ w. IsAlike w (sign.Find n)) (sym h) (record { opens = refl; closes = refl })
 told_alike names t (sign.Unnamed n) is h = subst (λ w. IsAlike w (sign.Unnamed n)) (sym h.0) (record { opens = refl; closes = refl })
-told_alike names t (sign.Mark m) is h = subst (λ w. IsAlike w (sign.Mark m)) (sym h) (record { opens = mark_alike m mark.OpenBrace; closes = mark_alike m mark.CloseBrace })
+told_alike names t (sign.Mark m) is h = subst (λ w. IsAlike w (sign.Mark m)) (sym h) (record { opens = mark_alike m mark.OpenBrace opening_alone; closes = mark_alike m mark.CloseBrace closing_alone })
 
 -- what holds place by place holds one by one
 by_places : (ts : List Token) (ss : List Sign) → length ss ≤ length ts → ((k : ℕ) → k < length ss → (s : Sign) × (slice_get ss k ≡ Some s) × IsAlike (token_at ts k).text s) → Alike ts ss

@@ -13,9 +13,11 @@ use Rattle.cv_parse_notation.specs.declared.sign.Sign.{Sign}
 use Rattle.cv_parse_notation.specs.declared.sign.Sign.TheVariants as sign
 use Rattle.cv_parse_tables.specs.terminals.Braces.{file_tokens}
 use Rattle.cv_parse_tables.specs.spelling.Spelling.{mark_of_text}
-use Rattle.cv_parse_tables.specs.terminals.Signs.{Step, first_text, is_unnamed, no_counts, one_find, place_of, signs_from, signs_of, step_before, text_step, token_step, unnamed_name, unnamed_step, with_name, word_step}
+use Rattle.cv_parse_tables.specs.terminals.Signs.{Step, first_text, is_unnamed, no_counts, one_find, place_of, signs_from, signs_in, signs_of, step_before, text_step, token_step, unnamed_name, unnamed_step, with_name, word_step}
 use Rattle.cv_print_bytes.specs.terminals.Written.{is_name}
-use Rattle.cv_parse_laws.specs.Words.{AreNamed}
+use Rattle.cv_parse_tables.specs.declared.terminals.openings.Place.TheVariants.{Outside}
+use Rattle.cv_parse_tables.proofs.terminals.RightSides.{all_kept}
+use Rattle.cv_parse_laws.specs.Words.{AreNamed, IsNamed}
 
 -- `bool` stands first among the names
 abbrev BoolFirst : List (List ℕ) → Type 0
@@ -90,4 +92,4 @@ from_named names counts (t ∷ ts) f =
     together s.signs (signs_from s.names s.counts ts).signs r.named (from_named s.names s.counts ts r.first)
 
 pub signs_named : (ts : List Token) → AreNamed (signs_of ts).signs
-signs_named ts = from_named (codes "bool" ∷ []) no_counts (file_tokens ts) ([], refl)
+signs_named ts = all_kept IsNamed tt tt Outside (signs_in (file_tokens ts)).signs (from_named (codes "bool" ∷ []) no_counts (file_tokens ts) ([], refl))

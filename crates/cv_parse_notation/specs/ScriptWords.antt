@@ -57,6 +57,7 @@ word_code script.OtherFact = 48
 word_code script.OtherHere = 49
 word_code script.Same = 50
 word_code script.Late = 51
+word_code script.Alt = 52
 
 -- all of them, by their codes
 abbrev pub every_word : List ScriptWord
@@ -66,7 +67,7 @@ every_word =
     script.Fresh ∷ script.Crypto ∷ script.Success ∷ script.Simplify ∷ script.Events ∷ script.Never ∷ script.With ∷ script.Above ∷ script.Cell ∷ script.Holds ∷
     script.Distinct ∷ script.Pair ∷ script.Fact ∷ script.Here ∷ script.Of ∷ script.Site ∷ script.Refl ∷ script.Sym ∷ script.Trans ∷ script.Cong ∷
     script.Mp ∷ script.And ∷ script.Left ∷ script.Right ∷ script.Contra ∷ script.Exfalso ∷ script.Given ∷ script.Again ∷ script.OtherFact ∷ script.OtherHere ∷
-    script.Same ∷ script.Late ∷ []
+    script.Same ∷ script.Late ∷ script.Alt ∷ []
 
 abbrev pub word_of : ℕ → ScriptWord
 word_of n = slice_index_or every_word n script.Plain
@@ -124,11 +125,12 @@ word_of_code script.OtherFact = refl
 word_of_code script.OtherHere = refl
 word_of_code script.Same = refl
 word_of_code script.Late = refl
+word_of_code script.Alt = refl
 
 abbrev pub same_word : ScriptWord → ScriptWord → Bool
 same_word v w = word_code v == word_code w
 
-pub word_code_below : (w : ScriptWord) → word_code w < 52
+pub word_code_below : (w : ScriptWord) → word_code w < 53
 word_code_below script.Plain = lit< tt
 word_code_below script.Rename = lit< tt
 word_code_below script.To = lit< tt
@@ -181,3 +183,4 @@ word_code_below script.OtherFact = lit< tt
 word_code_below script.OtherHere = lit< tt
 word_code_below script.Same = lit< tt
 word_code_below script.Late = lit< tt
+word_code_below script.Alt = lit< tt

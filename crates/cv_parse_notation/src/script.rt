@@ -60,6 +60,7 @@ pub enum ScriptWord {
     OtherHere,
     Same,
     Late,
+    Alt,
 }
 
 impl ScriptWord {
@@ -120,6 +121,7 @@ impl ScriptWord {
             ScriptWord::OtherHere => 49,
             ScriptWord::Same => 50,
             ScriptWord::Late => 51,
+            ScriptWord::Alt => 52,
         }
     }
 }

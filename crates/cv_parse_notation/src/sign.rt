@@ -66,6 +66,8 @@ pub enum Mark {
     Arrow,
     Both,
     Either,
+    /// An opening parenthesis before a right side of a query with an event in it.
+    OpenAtoms,
 }
 
 /// A token, as the grammar sees it.
@@ -148,6 +150,7 @@ impl Mark {
             Mark::Arrow => 57,
             Mark::Both => 58,
             Mark::Either => 59,
+            Mark::OpenAtoms => 60,
         }
     }
 }

@@ -57,6 +57,7 @@ quiet_rows sort.BodyBranch e = refl
 quiet_rows sort.LeftFunction e = refl
 quiet_rows sort.RightFunction e = refl
 quiet_rows sort.RightRest e = refl
+quiet_rows sort.RightSide e = refl
 quiet_rows sort.Braces e = refl
 
 not_bound : (x : ℕ) (us : Uses) → AllUsed (IsIn binds_none is_quiet) us → IsBound x us → ⊥

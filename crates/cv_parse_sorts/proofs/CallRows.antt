@@ -45,7 +45,7 @@ module _ (F V : ℕ → Type 0) where
     pub parts : Is t
     pub variables : AreCells F V t
 
-  -- what the phrases of a sort have; those of equivalences and of the proof block stand in no game
+  -- what the phrases of a sort have; those of equivalences, of queries and of the proof block stand in no game
   abbrev pub OfSort : Sort → Tree → Type 0
   OfSort sort.Pattern t = IsMessage t
   OfSort sort.Sending t = IsMessage t
@@ -56,6 +56,7 @@ module _ (F V : ℕ → Type 0) where
   OfSort sort.LeftFunction t = Unit {0}
   OfSort sort.RightFunction t = Unit {0}
   OfSort sort.RightRest t = Unit {0}
+  OfSort sort.RightSide t = Unit {0}
   OfSort sort.Braces t = Unit {0}
   OfSort s t = Is t
 

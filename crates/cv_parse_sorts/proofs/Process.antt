@@ -62,6 +62,7 @@ inside_rows sort.BodyBranch e = refl
 inside_rows sort.LeftFunction e = refl
 inside_rows sort.RightFunction e = refl
 inside_rows sort.RightRest e = refl
+inside_rows sort.RightSide e = refl
 inside_rows sort.Braces e = refl
 
 part_same : (r : Role) (p : Option Region) → is_inside r ≡ true → part_after p r ≡ p

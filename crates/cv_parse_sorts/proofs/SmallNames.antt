@@ -11,9 +11,11 @@ use Rattle.cv_parse_notation.specs.declared.sign.Mark.{Mark}
 use Rattle.cv_parse_notation.specs.declared.sign.Sign.{Sign}
 use Rattle.cv_parse_notation.specs.declared.sign.Sign.TheVariants as sign
 use Rattle.cv_parse_tables.specs.declared.terminals.pass.Counts.{Counts}
+use Rattle.cv_parse_tables.specs.declared.terminals.openings.Place.TheVariants.{Outside}
+use Rattle.cv_parse_tables.proofs.terminals.RightSides.{all_kept}
 use Rattle.cv_parse_tables.specs.terminals.Braces.{file_tokens}
 use Rattle.cv_parse_tables.specs.spelling.Spelling.{mark_of_text}
-use Rattle.cv_parse_tables.specs.terminals.Signs.{NumberBelow, Step, first_text, is_unnamed, no_counts, one_find, place_of, signs_from, signs_of, step_before, text_step, token_step, unnamed_name, unnamed_step, with_name, word_step}
+use Rattle.cv_parse_tables.specs.terminals.Signs.{NumberBelow, Step, first_text, is_unnamed, no_counts, one_find, place_of, signs_from, signs_in, signs_of, step_before, text_step, token_step, unnamed_name, unnamed_step, with_name, word_step}
 
 abbrev pub AreBelow : ℕ → List Sign → Type 0
 AreBelow bound signs = AllByRecursion (NumberBelow bound) signs
@@ -93,4 +95,4 @@ pub some_name : (ts : List Token) → 0 < length (signs_of ts).names
 some_name ts = let m = (all_fit (codes "bool" ∷ []) no_counts (file_tokens ts)).more in omega arith
 
 pub signs_below : (ts : List Token) → AreBelow (length (signs_of ts).names) (signs_of ts).signs
-signs_below ts = (all_fit (codes "bool" ∷ []) no_counts (file_tokens ts)).below
+signs_below ts = all_kept (NumberBelow (length (signs_of ts).names)) tt tt Outside (signs_in (file_tokens ts)).signs (all_fit (codes "bool" ∷ []) no_counts (file_tokens ts)).below

@@ -1,4 +1,5 @@
 pub mod Braces
+pub mod Openings
 pub mod ScriptSigns
 pub mod Signs
 pub mod Worked

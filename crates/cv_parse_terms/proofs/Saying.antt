@@ -1,5 +1,5 @@
 -- Pieces that read what a form reads, and make what its value stands for.
-use Rattle.std.proofs.Common.{◌≡◌, ℕ, zero, suc, ◌+◌, ◌<◌, Bool, true, false, ◌||◌, List, [], ◌∷◌, ◌++◌, length, drop, refl, ap, ap₂, sym, ◌∙◌, arith, subst, append_assoc, append-nil, Option, Some, None, Result, Ok, Err}
+use Rattle.std.proofs.Common.{◌≡◌, ℕ, zero, suc, ◌+◌, ◌-◌, ◌<◌, Bool, true, false, ◌||◌, List, [], ◌∷◌, ◌++◌, length, drop, refl, ap, ap₂, sym, ◌∙◌, arith, subst, append_assoc, append-nil, Option, Some, None, Result, Ok, Err}
 use Rattle.cv_syntax_trees.specs.Tree.{Tree, Empty, chain, binders, names}
 use Rattle.cv_syntax_trees.specs.declared.head.Head.{Head}
 use Rattle.cv_syntax_trees.specs.declared.head.Head.TheVariants as head
@@ -12,6 +12,7 @@ use Rattle.cv_parse_notation.specs.Spells.{Kind, next_is, is_mark, starts}
 use Rattle.cv_parse_notation.specs.Form.{sign, word, note, number, nought, find_word, may, many, either, made, level, deeper, ◌&◌, ◌▸◌, ◌◂◌}
 use Rattle.cv_parse_notation.specs.Reads.{Read, Reader, Found, Fault, ◌>>=◌, found, joined, mapped, one_more, nothing, pick, no_level, no_syntax, read_many, read_sign}
 use Rattle.cv_parse_grammar.specs.declared.role.Role.{Role}
+use Rattle.cv_parse_grammar.specs.Declarations.{some_of}
 use Rattle.cv_parse_grammar.specs.Marks.{rule_of}
 use Rattle.cv_parse_grammar.specs.Phrases.{Sort, Phrase, after, row}
 use Rattle.cv_parse_grammar.specs.Rules.{heads}
@@ -25,7 +26,7 @@ use Rattle.cv_parse_terms.specs.declared.piece.Closing.TheVariants as closing
 use Rattle.cv_parse_terms.specs.declared.piece.Piece.{Piece}
 use Rattle.cv_parse_terms.specs.declared.piece.Piece.TheVariants as piece
 use Rattle.cv_parse_terms.specs.Gives.{positive, below_by, read_by}
-use Rattle.cv_parse_terms.specs.Tables.{Parts, Work, Step, and_then, before, begins, below_step, bounds, changed, chosen, closed, instead, made_no_part, marked, more, named, no_room, paired, part, piece_in, pieces_in, pieces_step, put, refused, row_in, waits}
+use Rattle.cv_parse_terms.specs.Tables.{Parts, Work, Step, and_then, before, begins, below_step, bounds, changed, chosen, closed, closer, instead, made_no_part, marked, more, named, no_room, paired, part, piece_in, pieces_in, pieces_step, put, refused, repeated, row_in, waits}
 use Rattle.cv_parse_terms.specs.TermRows.{row_in_table, rows_of_terms}
 use Rattle.cv_parse_terms.proofs.Walks.{row_law}
 
@@ -319,6 +320,28 @@ chain_closes [] q = refl
 chain_closes (t ∷ l) q =
     ap (part (Over head.Cons)) (chain_closes l (grows t q))
     ∙ ap (λ x. let p : Parts = record { names = q.names; makes = x } in p) (append_assoc (q.makes ++ postorder t) (postorder (chain l)) (Over head.Cons ∷ []) ∙ append_assoc q.makes (postorder t) (postorder (chain l) ++ Over head.Cons ∷ []))
+
+-- alternatives, of which there are some
+
+abbrev pub alternatives_grow : List Tree → Parts → Parts
+alternatives_grow [] q = q
+alternatives_grow (t ∷ l) q = grows (some_of (t ∷ l)) q
+
+some_close : (t : Tree) (l : List Tree) (q : Parts) → repeated (length l) (closer closing.Alternatives) (each grows l (grows t q)) ≡ grows (some_of (t ∷ l)) q
+unfolding postorder
+some_close t [] q = refl
+some_close t (u ∷ l) q =
+    ap (part (Over head.SomeOf)) (some_close u l (grows t q))
+    ∙ ap (λ x. let p : Parts = record { names = q.names; makes = x } in p) (append_assoc (q.makes ++ postorder t) (postorder (some_of (u ∷ l))) (Over head.SomeOf ∷ []) ∙ append_assoc q.makes (postorder t) (postorder (some_of (u ∷ l)) ++ Over head.SomeOf ∷ []))
+
+alternatives_close : (l : List Tree) (q : Parts) → closed closing.Alternatives (length l) (each grows l q) ≡ alternatives_grow l q
+alternatives_close [] q = refl
+alternatives_close (t ∷ l) q =
+    let i : length (t ∷ l) - 1 ≡ length l = omega arith in
+    ap (λ j. repeated j (closer closing.Alternatives) (each grows l (grows t q))) i ∙ some_close t l q
+
+pub alternatives_says : {marks : Bool} {n : ℕ} {f : Phrase Tree} (b : ℕ) (m : Mark) (r : ℕ) → r < b → SaysBy marks n r (row_in_table marks r) f grows → SaysBy marks n b (piece.List closing.Alternatives m r ∷ []) (made some_of (row m f)) grows
+alternatives_says b m r h s = made_says some_of grows (made_says (λ (a, l). a ∷ l) (λ l. grows (some_of l)) (items_says b false closing.Alternatives m r alternatives_grow h alternatives_close s))
 
 -- two names wait, the first one below
 abbrev pub both_wait : ℕ × ℕ → Parts → Parts

@@ -126,7 +126,7 @@ bounds_leave s t ns ms n1 n2 n3 k x4 x3 x2 h makes a1 b1 a2 b2 a3 b3 a4 b4 i d e
 pub repeated_more : (n : ℕ) (f : Parts → Parts) (q : Parts) → repeated (n + 1) f q ≡ f (repeated n f q)
 repeated_more n f q = let i : n + 1 ≡ suc n = omega arith in ap (λ k. repeated k f q) i
 
-pub closes_more : (n : ℕ) (c : Closing) (s t u : Trail) (ns ms ls : List ℕ) → parts_of t ms ≡ closed c n (parts_of s ns) → parts_of u ls ≡ closer c (parts_of t ms) → parts_of u ls ≡ closed c (n + 1) (parts_of s ns)
+pub closes_more : (n : ℕ) (c : Closing) (s t u : Trail) (ns ms ls : List ℕ) → parts_of t ms ≡ repeated n (closer c) (ended c (parts_of s ns)) → parts_of u ls ≡ closer c (parts_of t ms) → parts_of u ls ≡ repeated (n + 1) (closer c) (ended c (parts_of s ns))
 closes_more n c s t u ns ms ls e d = d ∙ (ap (closer c) e ∙ sym (repeated_more n (closer c) (ended c (parts_of s ns))))
 
 -- pieces one behind another

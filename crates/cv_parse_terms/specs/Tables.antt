@@ -149,25 +149,35 @@ bounds q =
 abbrev pub instead : ℕ → Parts → Parts
 instead x q = record { names = x ∷ other_names q.names; makes = q.makes }
 
--- a list of so many: its end, and a node for each
+-- a list of so many: its end, and its nodes
 abbrev pub ended : Closing → Parts → Parts
 ended closing.Trees q = part Nothing q
 ended closing.Binders q = part Nothing q
 ended closing.Names q = part Nothing q
 ended closing.Apart q = q
+ended closing.Alternatives q = q
 
 abbrev pub closer : Closing → Parts → Parts
 closer closing.Trees q = part (Over head.Cons) q
 closer closing.Binders q = paired pairing.Binder q
 closer closing.Names q = named naming.Name q
 closer closing.Apart q = q
+closer closing.Alternatives q = part (Over head.SomeOf) q
+
+-- a node for each, and of alternatives one between two of them
+abbrev pub nodes_of : Closing → ℕ → ℕ
+nodes_of closing.Trees n = n
+nodes_of closing.Binders n = n
+nodes_of closing.Names n = n
+nodes_of closing.Apart n = n
+nodes_of closing.Alternatives n = n - 1
 
 abbrev pub repeated : ℕ → (Parts → Parts) → Parts → Parts
 repeated zero f q = q
 repeated (suc n) f q = f (repeated n f q)
 
 abbrev pub closed : Closing → ℕ → Parts → Parts
-closed c n q = repeated n (closer c) (ended c q)
+closed c n q = repeated (nodes_of c n) (closer c) (ended c q)
 
 -- the tokens with which it begins
 abbrev pub begins : Ahead → Kind → Bool

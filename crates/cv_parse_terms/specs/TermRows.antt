@@ -211,10 +211,10 @@ rows_with bare =
     (Choice (ahead.Mark mark.Inj) 181 182 ∷ []) ∷  -- 183 an event of a query
     (Choice (ahead.Mark mark.EventWord) 182 31 ∷ []) ∷  -- 184
     (Choice (ahead.Mark mark.Inj) 181 184 ∷ []) ∷  -- 185 an event of a query, or an equality
-    (Choice ahead.Word 150 54 ∷ Row 183 ∷ Says mark.Implies ∷ Items closing.Trees mark.Both 185 ∷ Part (Over Cons) ∷ Part (Over Query) ∷ []) ∷  -- 186 a correspondence
-    (Choice (ahead.Mark mark.SecretOnce) 179 186 ∷ []) ∷  -- 187
-    (Choice (ahead.Mark mark.Secret) 178 187 ∷ []) ∷  -- 188 what a query asks
-    (Says mark.QueryWord ∷ Note (Enters_in InQuery) ∷ Row 188 ∷ Note Leaves ∷ Says mark.Dot ∷ []) ∷  -- 189 the declaration of a query
+    (Deeper (ahead.Mark mark.OpenAtoms) 216 ∷ []) ∷  -- 186 a right side in parentheses one level down
+    (Choice (ahead.Mark mark.OpenAtoms) 186 185 ∷ []) ∷  -- 187 an item of a right side
+    (Items closing.Trees mark.Both 187 ∷ []) ∷  -- 188 an alternative of a right side
+    (Items closing.Alternatives mark.Either 188 ∷ []) ∷  -- 189 a right side
     (Says mark.Open ∷ Word (Asks AProbability) ∷ Says mark.Close ∷ []) ∷  -- 190
     (Says mark.AtMost ∷ Level (ahead.Mark mark.Open) 190 ∷ Says mark.Gives ∷ []) ∷  -- 191 a probability, between two sides
     (Says mark.Bang ∷ Word BindsLocal ∷ Says mark.AtMost ∷ Word BindsBound ∷ Value 1 ∷ Value 0 ∷ []) ∷  -- 192 a replication of a function
@@ -235,7 +235,13 @@ rows_with bare =
     (Row 60 ∷ Part Nothing ∷ Part Nothing ∷ Paired pairing.Binder ∷ []) ∷  -- 207 the key of a group
     (Says mark.Bang ∷ Word BindsLocal ∷ Says mark.AtMost ∷ Word BindsBound ∷ Says mark.New ∷ Row 207 ∷ Says mark.Semicolon ∷ Row 203 ∷ Paired pairing.Bound ∷ []) ∷  -- 208 a group of the left side
     (Says mark.Bang ∷ Word BindsLocal ∷ Says mark.AtMost ∷ Word BindsBound ∷ Says mark.New ∷ Row 207 ∷ Says mark.Semicolon ∷ Row 206 ∷ Paired pairing.Bound ∷ []) ∷  -- 209 a group of the right side
-    (Says mark.Equiv ∷ Word (Declares AnEquivalence) ∷ Note (Enters_in InEquivalence) ∷ Row 208 ∷ Row 191 ∷ Row 209 ∷ Named naming.Equivalence ∷ Note Leaves ∷ Says mark.Dot ∷ []) ∷ []  -- 210 the declaration of an equivalence
+    (Says mark.Equiv ∷ Word (Declares AnEquivalence) ∷ Note (Enters_in InEquivalence) ∷ Row 208 ∷ Row 191 ∷ Row 209 ∷ Named naming.Equivalence ∷ Note Leaves ∷ Says mark.Dot ∷ []) ∷  -- 210 the declaration of an equivalence
+    (Choice ahead.Word 150 54 ∷ Row 183 ∷ Says mark.Implies ∷ Row 189 ∷ Part (Over Cons) ∷ Part (Over Query) ∷ []) ∷  -- 211 a correspondence
+    (Choice (ahead.Mark mark.SecretOnce) 179 211 ∷ []) ∷  -- 212
+    (Choice (ahead.Mark mark.Secret) 178 212 ∷ []) ∷  -- 213 what a query asks
+    (Says mark.QueryWord ∷ Note (Enters_in InQuery) ∷ Row 213 ∷ Note Leaves ∷ Says mark.Dot ∷ []) ∷  -- 214 the declaration of a query
+    (Says mark.OpenAtoms ∷ Row 189 ∷ Says mark.Close ∷ []) ∷  -- 215
+    (Level (ahead.Mark mark.OpenAtoms) 215 ∷ []) ∷ []  -- 216 a right side in parentheses
 
 abbrev pub rows_of_terms : (marks : Bool) → Table
 rows_of_terms marks = rows_with (bare_piece marks)
@@ -245,7 +251,7 @@ abbrev pub term_rows : Table
 term_rows = rows_of_terms false
 
 abbrev pub row_count : ℕ
-row_count = 211
+row_count = 217
 
 abbrev pub row_in_table : (marks : Bool) → ℕ → List Piece
 row_in_table marks r = slice_index_or (rows_of_terms marks) r []

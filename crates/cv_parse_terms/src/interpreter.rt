@@ -3,7 +3,7 @@ ghost use Rattle.cv_syntax.specs.declared.make.Make.TheVariants.{Nothing};
 ghost use Rattle.cv_parse_notation.specs.Spells.{next_is};
 ghost use Rattle.cv_parse_notation.specs.Reads.{read_find, read_number, read_sign, read_word};
 ghost use Rattle.cv_parse_terms.specs.Gives.{read_note};
-ghost use Rattle.cv_parse_terms.specs.Tables.{Runs, Stops, alone, begins, bounds as bounds_parts, bounds_head as bounds_form, change_by, closed, closer as closer_parts, ended as ended_parts, head_of as head_form, instead as instead_of, last_name, made_no_part, marked as marked_parts, more, named as named_parts, other_names, pair_of as pair_form, paired as paired_parts, parts_of, piece_in, pieces_in, put, put_before, refused as refused_step, row_in, rows_of, twice, waits, work_of};
+ghost use Rattle.cv_parse_terms.specs.Tables.{Runs, Stops, alone, begins, bounds as bounds_parts, bounds_head as bounds_form, change_by, closed, closer as closer_parts, ended as ended_parts, head_of as head_form, instead as instead_of, last_name, made_no_part, marked as marked_parts, more, named as named_parts, nodes_of, other_names, pair_of as pair_form, paired as paired_parts, parts_of, piece_in, pieces_in, put, put_before, refused as refused_step, row_in, rows_of, twice, waits, work_of};
 ghost use Rattle.cv_parse_terms.specs.declared.lookahead.ReadError.TheVariants.{OutOfMemory};
 
 use crate::lookahead::{
@@ -359,6 +359,10 @@ fn closer(trail: &mut Trail, names: &mut Vec<u64>, closing: Closing) -> Result<(
         Closing::Binders => paired(trail, names, Pairing::Binder),
         Closing::Names => named(trail, names, Naming::Name),
         Closing::Apart => Ok(()),
+        Closing::Alternatives => {
+            trail.makes.push(Make::Over(Head::SomeOf))?;
+            Ok(())
+        }
     }
 }
 
@@ -375,11 +379,21 @@ fn list_end(trail: &mut Trail, names: &Vec<u64>, closing: Closing) -> Result<(),
             trail.makes.push(Make::Nothing)?;
             Ok(())
         }
-        Closing::Apart => Ok(()),
+        Closing::Apart | Closing::Alternatives => Ok(()),
     }
 }
 
-/// The end of a list, and so many nodes.
+/// How many nodes a list of so many has.
+fn node_count(closing: Closing, count: usize) -> usize
+    ensures { result ≡ nodes_of closing count }
+{
+    match closing {
+        Closing::Alternatives => count.saturating_sub(1),
+        Closing::Trees | Closing::Binders | Closing::Names | Closing::Apart => count,
+    }
+}
+
+/// The end of a list of so many, and its nodes.
 #[tactic(auto)]
 fn close(
     trail: &mut Trail,
@@ -393,7 +407,7 @@ fn close(
     ensures uses { trail.new.uses ≡ trail.old.uses }
 {
     list_end(trail, names, closing)?;
-    'items: for _ in 0..count {
+    'items: for _ in 0..node_count(closing, count) {
         closer(trail, names, closing)?;
     }
     Ok(())

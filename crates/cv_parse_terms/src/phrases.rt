@@ -19,7 +19,7 @@ use cv_syntax::Head;
 use cv_syntax::Make::{Nothing, Over};
 
 /// How many rows there are. A row that stands before one that only opens a level is the inside of it.
-pub(crate) const ROWS: usize = 211;
+pub(crate) const ROWS: usize = 217;
 
 /// Terms, and types with their variables.
 const TERM_ROWS: [&[Piece]; 64] = [
@@ -409,7 +409,7 @@ const BODY_ROWS: [&[Piece]; 22] = [
 ];
 
 /// Declarations.
-const DECLARATION_ROWS: [&[Piece]; 61] = [
+const DECLARATION_ROWS: [&[Piece]; 67] = [
     &[Row(147), Says(Mark::Semicolon)],
     &[Says(Mark::Forall), Row(150)],
     &[
@@ -521,23 +521,10 @@ const DECLARATION_ROWS: [&[Piece]; 61] = [
     &[Choice(Next::Mark(Mark::Inj), 181, 182)],
     &[Choice(Next::Mark(Mark::EventWord), 182, 31)],
     &[Choice(Next::Mark(Mark::Inj), 181, 184)],
-    &[
-        Choice(Next::Word, 150, 54),
-        Row(183),
-        Says(Mark::Implies),
-        Items(Closing::Trees, Mark::Both, 185),
-        Part(Over(Head::Cons)),
-        Part(Over(Head::Query)),
-    ],
-    &[Choice(Next::Mark(Mark::SecretOnce), 179, 186)],
-    &[Choice(Next::Mark(Mark::Secret), 178, 187)],
-    &[
-        Says(Mark::QueryWord),
-        Note(Role::Enters(Region::InQuery)),
-        Row(188),
-        Note(Role::Leaves),
-        Says(Mark::Dot),
-    ],
+    &[Deeper(Next::Mark(Mark::OpenAtoms), 216)],
+    &[Choice(Next::Mark(Mark::OpenAtoms), 186, 185)],
+    &[Items(Closing::Trees, Mark::Both, 187)],
+    &[Items(Closing::Alternatives, Mark::Either, 188)],
     &[
         Says(Mark::Open),
         Word(Role::Asks(Asked::AProbability)),
@@ -638,6 +625,25 @@ const DECLARATION_ROWS: [&[Piece]; 61] = [
         Note(Role::Leaves),
         Says(Mark::Dot),
     ],
+    &[
+        Choice(Next::Word, 150, 54),
+        Row(183),
+        Says(Mark::Implies),
+        Row(189),
+        Part(Over(Head::Cons)),
+        Part(Over(Head::Query)),
+    ],
+    &[Choice(Next::Mark(Mark::SecretOnce), 179, 211)],
+    &[Choice(Next::Mark(Mark::Secret), 178, 212)],
+    &[
+        Says(Mark::QueryWord),
+        Note(Role::Enters(Region::InQuery)),
+        Row(213),
+        Note(Role::Leaves),
+        Says(Mark::Dot),
+    ],
+    &[Says(Mark::OpenAtoms), Row(189), Says(Mark::Close)],
+    &[Level(Next::Mark(Mark::OpenAtoms), 215)],
 ];
 
 /// The rows of terms, processes, the bodies of functions and declarations.

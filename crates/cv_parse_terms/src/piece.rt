@@ -68,6 +68,8 @@ pub enum Closing {
     Names,
     /// Parts and names that stay apart.
     Apart,
+    /// Trees, of which one or another is taken.
+    Alternatives,
 }
 
 /// A piece of a row. Rows go by their numbers, and speak of rows with smaller numbers; only a phrase

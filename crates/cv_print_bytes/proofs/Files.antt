@@ -13,7 +13,7 @@ use Rattle.cv_parse_notation.specs.declared.sign.Mark.{Mark}
 use Rattle.cv_parse_notation.specs.declared.sign.Mark.TheVariants as mark
 use Rattle.cv_pool.specs.names.Texts.{NoRepeat}
 use Rattle.cv_parse_tables.specs.terminals.ScriptSigns.{between, script_signs}
-use Rattle.cv_parse_tables.specs.spelling.Spelling.{spelling, mark_of_text}
+use Rattle.cv_parse_tables.specs.spelling.Spelling.{as_told, spelling, mark_of_text}
 use Rattle.cv_parse_tables.specs.terminals.Signs.{Step, no_counts, with_name, is_unnamed, word_step, text_step, token_step, unnamed_step, step_before, unnamed_name, first_text, signs_from, signs_of}
 use Rattle.cv_parse_tables.specs.terminals.Braces.{file_tokens}
 use Rattle.cv_parse_tables.proofs.terminals.FileTokens.{are_read}
@@ -34,7 +34,7 @@ data AllMarked : List (List ℕ) → Type 0 where
 
 infixr 30 ◌also◌
 ◌also◌ : {ss : List (List ℕ)} (m : Mark) → AllMarked ss → AllMarked (spelling m ∷ ss)
-m also rest = more (spelling m) (m, found m) rest
+m also rest = more (spelling m) (as_told m, found m) rest
 
 symbols_marked : AllMarked symbols
 symbols_marked =

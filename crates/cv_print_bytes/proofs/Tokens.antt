@@ -18,7 +18,7 @@ use Rattle.cv_parse_notation.specs.declared.sign.Mark.TheVariants as mark
 use Rattle.cv_parse_notation.specs.declared.sign.Sign.TheVariants as sign
 use Rattle.cv_print.specs.Terms.{name_text}
 use Rattle.cv_parse_tables.specs.terminals.Signs.{place_of, with_name, step_before, token_step, text_step, word_step, unnamed_step, one_find}
-use Rattle.cv_parse_tables.specs.spelling.Spelling.{spelling, mark_of_text}
+use Rattle.cv_parse_tables.specs.spelling.Spelling.{as_told, spelling, mark_of_text}
 use Rattle.cv_parse_tables.proofs.terminals.Naming.{only_place, with_name_old}
 use Rattle.cv_parse_tables.proofs.spelling.Table.{found, find_is_none}
 use Rattle.cv_print_bytes.specs.terminals.Signs.{name_sign, named, one}
@@ -33,10 +33,10 @@ use Rattle.cv_print_bytes.proofs.Shown.{Means, shows_blank, shows_token, no_star
 pub before_any : (names : List (List ℕ)) (k : TokenKind) (w : List ℕ) (next : List ℕ) (counts : _) → bytes_eq w (codes "collision") ≡ false → step_before names counts k w next ≡ token_step names counts k w
 before_any names k w next counts e = ap (λ x. if x && bytes_eq next (codes "new") then unnamed_step names counts else token_step names counts k w) e
 
-word_means : (names : List (List ℕ)) (m : Mark) → bytes_eq (spelling m) (codes "collision") ≡ false → Means names kind.Ident (spelling m) (sign.Mark m)
+word_means : (names : List (List ℕ)) (m : Mark) → bytes_eq (spelling m) (codes "collision") ≡ false → Means names kind.Ident (spelling m) (sign.Mark (as_told m))
 word_means names m e = record { step = λ counts next. before_any names kind.Ident (spelling m) next counts e ∙ ap (text_step names counts (spelling m)) (found m) }
 
-pub symbol_means : (names : List (List ℕ)) (m : Mark) → bytes_eq (spelling m) (codes "collision") ≡ false → Means names kind.Symbol (spelling m) (sign.Mark m)
+pub symbol_means : (names : List (List ℕ)) (m : Mark) → bytes_eq (spelling m) (codes "collision") ≡ false → Means names kind.Symbol (spelling m) (sign.Mark (as_told m))
 symbol_means names m e = record { step = λ counts next. before_any names kind.Symbol (spelling m) next counts e ∙ ap (text_step names counts (spelling m)) (found m) }
 
 number_means : (names : List (List ℕ)) (v : ℕ) (w : List ℕ) → bytes_eq w (codes "collision") ≡ false → Means names (kind.Number v) w (sign.Number v)
@@ -73,14 +73,14 @@ name_token names are (suc x) text h = (are.each x text h).token
 pub space : {names : List (List ℕ)} {p q : Bool} → Front names p q (codes " ") []
 space {names = names} {p = p} = record { goes = λ rest more h w. (begins p (32 ∷ rest) refl, shows_blank names 32 rest more refl w) }
 
-pub symbol : {names : List (List ℕ)} {p q : Bool} (m : Mark) → ((rest : List ℕ) → piece (spelling m ++ rest) ≡ Lexeme kind.Symbol (length (spelling m))) → ((rest : List ℕ) → is_apart (spelling m ++ rest) ≡ true) → bytes_eq (spelling m) (codes "collision") ≡ false → Front names p q (spelling m) (one m)
+pub symbol : {names : List (List ℕ)} {p q : Bool} (m : Mark) → ((rest : List ℕ) → piece (spelling m ++ rest) ≡ Lexeme kind.Symbol (length (spelling m))) → ((rest : List ℕ) → is_apart (spelling m ++ rest) ≡ true) → bytes_eq (spelling m) (codes "collision") ≡ false → Front names p q (spelling m) (one (as_told m))
 symbol {names = names} {p = p} m is apart other = record {
-  goes = λ rest more h w. (begins p (spelling m ++ rest) (apart rest), shows_token names kind.Symbol (spelling m) rest (sign.Mark m) more (is rest) (symbol_means names m other) w);
+  goes = λ rest more h w. (begins p (spelling m ++ rest) (apart rest), shows_token names kind.Symbol (spelling m) rest (sign.Mark (as_told m)) more (is rest) (symbol_means names m other) w);
 }
 
-pub word : {names : List (List ℕ)} (m : Mark) → IsToken kind.Ident (spelling m) → bytes_eq (spelling m) (codes "collision") ≡ false → Front names false true (spelling m) (one m)
+pub word : {names : List (List ℕ)} (m : Mark) → IsToken kind.Ident (spelling m) → bytes_eq (spelling m) (codes "collision") ≡ false → Front names false true (spelling m) (one (as_told m))
 word {names = names} m is other = record {
-  goes = λ rest more h w. (tt, shows_token names kind.Ident (spelling m) rest (sign.Mark m) more (word_before (spelling m) rest is h) (word_means names m other) w);
+  goes = λ rest more h w. (tt, shows_token names kind.Ident (spelling m) rest (sign.Mark (as_told m)) more (word_before (spelling m) rest is h) (word_means names m other) w);
 }
 
 pub find_word : {names : List (List ℕ)} → Front names false true (codes "find") (sign.Find 0 ∷ [])

@@ -19,7 +19,7 @@ use Rattle.cv_parse_notation.specs.declared.sign.Mark.TheVariants as mark
 use Rattle.cv_parse_notation.specs.declared.sign.Sign.TheVariants as sign
 use Rattle.cv_parse_tables.specs.spelling.ScriptSpelling.{word_of_text, word_spelling}
 use Rattle.cv_parse_tables.specs.terminals.Signs.{place_of, with_name, step_before, token_step, text_step, unnamed_step, one_find}
-use Rattle.cv_parse_tables.specs.spelling.Spelling.{spelling, mark_of_text}
+use Rattle.cv_parse_tables.specs.spelling.Spelling.{as_told, spelling, mark_of_text}
 use Rattle.cv_parse_tables.proofs.terminals.Naming.{only_place, with_name_apart, with_name_has, with_name_keeps, with_name_old}
 use Rattle.cv_parse_tables.proofs.spelling.ScriptTable.{found as found_word}
 use Rattle.cv_parse_tables.proofs.spelling.Table.{found}
@@ -36,14 +36,14 @@ use Rattle.cv_print_scripts.proofs.Tokens.{Means, Reads, Steps, no_star, reads_b
 use Rattle.cv_print_scripts.proofs.Words.{get_front, place_front}
 use Rattle.cv_print_bytes.proofs.Tokens.{before_any, differs, open_piece, no_word}
 
-word_means : {names behind : List (List ℕ)} (m : Mark) → bytes_eq (spelling m) (codes "collision") ≡ false → Means names behind kind.Ident (spelling m) (sign.Mark m)
+word_means : {names behind : List (List ℕ)} (m : Mark) → bytes_eq (spelling m) (codes "collision") ≡ false → Means names behind kind.Ident (spelling m) (sign.Mark (as_told m))
 word_means m e = record {
-  step = λ before counts next g. record { sign = sign.Mark m; names = before; is = before_any before kind.Ident (spelling m) next counts e ∙ ap (text_step before counts (spelling m)) (found m); grows = grown_same before; says = λ b. refl };
+  step = λ before counts next g. record { sign = sign.Mark (as_told m); names = before; is = before_any before kind.Ident (spelling m) next counts e ∙ ap (text_step before counts (spelling m)) (found m); grows = grown_same before; says = λ b. refl };
 }
 
-symbol_means : {names behind : List (List ℕ)} (m : Mark) → bytes_eq (spelling m) (codes "collision") ≡ false → Means names behind kind.Symbol (spelling m) (sign.Mark m)
+symbol_means : {names behind : List (List ℕ)} (m : Mark) → bytes_eq (spelling m) (codes "collision") ≡ false → Means names behind kind.Symbol (spelling m) (sign.Mark (as_told m))
 symbol_means m e = record {
-  step = λ before counts next g. record { sign = sign.Mark m; names = before; is = before_any before kind.Symbol (spelling m) next counts e ∙ ap (text_step before counts (spelling m)) (found m); grows = grown_same before; says = λ b. refl };
+  step = λ before counts next g. record { sign = sign.Mark (as_told m); names = before; is = before_any before kind.Symbol (spelling m) next counts e ∙ ap (text_step before counts (spelling m)) (found m); grows = grown_same before; says = λ b. refl };
 }
 
 number_means : {names behind : List (List ℕ)} (v : ℕ) (w : List ℕ) → bytes_eq w (codes "collision") ≡ false → Means names behind (kind.Number v) w (sign.Number v)
@@ -104,14 +104,14 @@ number v known =
 pub space : {names behind : List (List ℕ)} {p q : Bool} → Front names behind p q (codes " ") []
 space {p = p} = record { goes = λ rest more h w. (begins_so p (32 ∷ rest) refl, reads_blank 32 rest more refl w) }
 
-pub symbol : {names behind : List (List ℕ)} {p q : Bool} (m : Mark) → ((rest : List ℕ) → piece (spelling m ++ rest) ≡ Lexeme kind.Symbol (length (spelling m))) → ((rest : List ℕ) → is_apart (spelling m ++ rest) ≡ true) → bytes_eq (spelling m) (codes "collision") ≡ false → Front names behind p q (spelling m) (sign.Mark m ∷ [])
+pub symbol : {names behind : List (List ℕ)} {p q : Bool} (m : Mark) → ((rest : List ℕ) → piece (spelling m ++ rest) ≡ Lexeme kind.Symbol (length (spelling m))) → ((rest : List ℕ) → is_apart (spelling m ++ rest) ≡ true) → bytes_eq (spelling m) (codes "collision") ≡ false → Front names behind p q (spelling m) (sign.Mark (as_told m) ∷ [])
 symbol {p = p} m is apart other = record {
-  goes = λ rest more h w. (begins_so p (spelling m ++ rest) (apart rest), reads_token kind.Symbol (spelling m) rest (sign.Mark m) more (is rest) (symbol_means m other) w);
+  goes = λ rest more h w. (begins_so p (spelling m ++ rest) (apart rest), reads_token kind.Symbol (spelling m) rest (sign.Mark (as_told m)) more (is rest) (symbol_means m other) w);
 }
 
-pub word : {names behind : List (List ℕ)} (m : Mark) → IsToken kind.Ident (spelling m) → bytes_eq (spelling m) (codes "collision") ≡ false → Front names behind false true (spelling m) (sign.Mark m ∷ [])
+pub word : {names behind : List (List ℕ)} (m : Mark) → IsToken kind.Ident (spelling m) → bytes_eq (spelling m) (codes "collision") ≡ false → Front names behind false true (spelling m) (sign.Mark (as_told m) ∷ [])
 word m is other = record {
-  goes = λ rest more h w. (tt, reads_token kind.Ident (spelling m) rest (sign.Mark m) more (word_before (spelling m) rest is h) (word_means m other) w);
+  goes = λ rest more h w. (tt, reads_token kind.Ident (spelling m) rest (sign.Mark (as_told m)) more (word_before (spelling m) rest is h) (word_means m other) w);
 }
 
 pub opening : {names behind : List (List ℕ)} {p q : Bool} → Front names behind p q (codes "(") (sign.Mark mark.Open ∷ [])
@@ -204,6 +204,7 @@ module _ {names behind : List (List ℕ)} where
   mark_front mark.Arrow e = symbol mark.Arrow (λ rest. refl) (λ rest. refl) refl
   mark_front mark.Both e = symbol mark.Both (λ rest. refl) (λ rest. refl) refl
   mark_front mark.Either e = symbol mark.Either (λ rest. refl) (λ rest. refl) refl
+  mark_front mark.OpenAtoms e = absurd (cc)
 
 -- words of scripts
 
@@ -269,6 +270,7 @@ is_text script.OtherFact e = record { token = refl; no_mark = refl; no_find = re
 is_text script.OtherHere e = record { token = refl; no_mark = refl; no_find = refl; no_collision = refl; begins = refl; ends = refl }
 is_text script.Same e = record { token = refl; no_mark = refl; no_find = refl; no_collision = refl; begins = refl; ends = refl }
 is_text script.Late e = record { token = refl; no_mark = refl; no_find = refl; no_collision = refl; begins = refl; ends = refl }
+is_text script.Alt e = record { token = refl; no_mark = refl; no_find = refl; no_collision = refl; begins = refl; ends = refl }
 
 word_steps : {names behind : List (List ℕ)} → AreNames names → (w : ScriptWord) → IsText (word_spelling w) → (before : List (List ℕ)) (counts : _) (next : List ℕ) → IsGrown names before → Steps behind before counts kind.Ident (word_spelling w) next (sign.Word (place_of (with_all_words behind) (word_spelling w)) w)
 word_steps {behind = behind} are w is before counts next g =

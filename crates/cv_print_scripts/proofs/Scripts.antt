@@ -78,7 +78,7 @@ module _ (h : TableSort → Kind → Bool) (room : Bool) (B : TableSort → Rela
 -- the table's rows
 
 abbrev of_steps : TreesForm
-of_steps = one_of (form script_rows step_row) 134 19
+of_steps = one_of (form script_rows step_row) 136 19
 
 step_is : row_phrase script_rows step_row ≡ step_form of_steps
 step_is = refl

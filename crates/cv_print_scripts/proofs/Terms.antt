@@ -7,7 +7,7 @@ use Rattle.cv_lex.specs.declared.scan.Piece.TheVariants.{Lexeme}
 use Rattle.cv_lex.specs.Lexis.{IsToken, piece}
 use Rattle.cv_parse_notation.specs.declared.sign.Mark.{Mark}
 use Rattle.cv_parse_notation.specs.declared.sign.Sign.TheVariants as token
-use Rattle.cv_parse_tables.specs.spelling.Spelling.{spelling}
+use Rattle.cv_parse_tables.specs.spelling.Spelling.{as_told, spelling}
 use Rattle.cv_parse_notation.specs.declared.sign.Mark.TheVariants as mark
 use Rattle.cv_parse_notation.specs.declared.sign.Sign.{Sign}
 use Rattle.cv_print.specs.Terms.{name_text, term_text, terms_text}
@@ -35,10 +35,10 @@ parted count h a b k =
     record { here = p.0; left = q.0; right = q.1 }
 
 module _ {names behind : List (List ℕ)} where
-  sure : {p q : Bool} (m : Mark) → ((rest : List ℕ) → piece (spelling m ++ rest) ≡ Lexeme kind.Symbol (length (spelling m))) → ((rest : List ℕ) → is_apart (spelling m ++ rest) ≡ true) → bytes_eq (spelling m) (codes "collision") ≡ false → Told names behind p q (spelling m) (one m)
+  sure : {p q : Bool} (m : Mark) → ((rest : List ℕ) → piece (spelling m ++ rest) ≡ Lexeme kind.Symbol (length (spelling m))) → ((rest : List ℕ) → is_apart (spelling m ++ rest) ≡ true) → bytes_eq (spelling m) (codes "collision") ≡ false → Told names behind p q (spelling m) (one (as_told m))
   sure m is apart other = record { front = symbol m is apart other }
 
-  a_word : (m : Mark) → IsToken kind.Ident (spelling m) → bytes_eq (spelling m) (codes "collision") ≡ false → Told names behind false true (spelling m) (one m)
+  a_word : (m : Mark) → IsToken kind.Ident (spelling m) → bytes_eq (spelling m) (codes "collision") ≡ false → Told names behind false true (spelling m) (one (as_told m))
   a_word m is other = record { front = word m is other }
 
   blank : {p q : Bool} → Told names behind p q (codes " ") []

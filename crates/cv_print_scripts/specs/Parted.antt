@@ -50,11 +50,12 @@ needs f = true
 abbrev pub follows : Layout → Layout → Bool
 follows f g = not (needs f) || begins g
 
--- no other token begins with this one
+-- its text tells it, and no other token begins with it
 abbrev pub is_sure : Mark → Bool
 is_sure mark.Collision = false
 is_sure mark.Equal = false
 is_sure mark.Bar = false
+is_sure mark.OpenAtoms = false
 is_sure m = true
 
 -- before a blank it is told

@@ -1,15 +1,19 @@
 -- What derivations are to end with, claim by claim.
-use Rattle.std.proofs.Common.{◌≡◌, ℕ, Bool, true, false, ◌&&◌, not, List, [], ◌∷◌, ◌++◌, Option, Some, None, is_some, refl, sym, ap, ap₂, subst, ◌∙◌, arith}
+use Rattle.std.proofs.Common.{◌≡◌, ℕ, ◌+◌, ◌<◌, ◌≤◌, drop, get_or, length, Bool, true, false, ◌&&◌, not, List, [], ◌∷◌, ◌++◌, Option, Some, None, is_some, refl, sym, ap, ap₂, subst, ◌∙◌, arith}
 use Rattle.std.specs.Prelude.{◌==◌, if◌then◌else◌}
 use Rattle.std.proofs.lemmas.Bool.{and_parts}
+use Rattle.std.proofs.lemmas.List.{drop_all, drop_more}
 use Rattle.std.specs.List.{list_all}
 use Rattle.std.proofs.Math.Path.{fun_ext}
 use Rattle.cv_lists.specs.Options.{first_of}
 use Rattle.cv_syntax_trees.specs.declared.head.Head.{Head}
-use Rattle.cv_syntax_trees.specs.declared.head.Head.TheVariants.{AboveRoute, AtEntry, CellRoute, Cons, Defined, DistinctPart, Eq, HoldsRoute, Leaf, NeverEntry, Pair, WithEntry}
+use Rattle.cv_syntax_trees.specs.declared.head.Head.TheVariants.{AboveRoute, AtEntry, CellRoute, Cons, Defined, DistinctPart, Eq, HoldsRoute, Leaf, NeverEntry, Pair, SecretPair, WithEntry}
 use Rattle.cv_syntax_trees.specs.Tree.{Tree, Empty, Node, first}
 use Rattle.cv_syntax.proofs.Trees.{tree_of_NoTree}
-use Rattle.cv_meaning.specs.Correspondences.{Atom, Correspondence, RightEvent, RightTerm, atom_of, atoms_of}
+use Rattle.cv_meaning.specs.Correspondences.{Atom, Correspondence, RightEvent, RightTerm, atom_of}
+use Rattle.cv_query_certificates.specs.Alternatives.{atoms_of_chosen, chosen_atoms, chosen_by, number_in, routes_of}
+use Rattle.cv_query_parts.specs.Alternatives.{atoms_seen}
+use Rattle.cv_query_parts.specs.declared.alternatives.NumberedAtom.{NumberedAtom}
 use Rattle.cv_scene.specs.lines.Ends.{is_end}
 use Rattle.cv_scene.specs.lines.Given.{given_for, or_node, term_for, with_given}
 use Rattle.cv_scene.specs.lines.Lines.{Holds as HoldsTerm, IsDefined, lines_of, statements}
@@ -19,7 +23,6 @@ use Rattle.cv_scene.specs.Derivations.{first_bad_line}
 use Rattle.cv_scene.specs.Scenes.{Scene}
 use Rattle.cv_scene.specs.Sights.{sight_at}
 use Rattle.cv_scope_rules.specs.Context.{Context}
-use Rattle.cv_query_certificates.specs.Alternatives.{only_atoms}
 use Rattle.cv_query_certificates.specs.Claims.{Claim, at_place, behind_cell, claim_of, claims_of, entry_claims, equations, joined, names_of, terms_for}
 use Rattle.cv_query_certificates.specs.EventNodes.{are_for, arguments_at}
 use Rattle.cv_query_certificates.specs.Failures.{has_end, is_right}
@@ -94,23 +97,26 @@ never_end s p by = ap (is_end (statements (lines_of by))) (sym (said_term no))
 
 -- the claims of routes, one by one
 
-module _ (test : Claim → Bool) (s : Scene) (f : Tree → Tree) where
-  pub no_more_claims : (atoms routes : Tree) → atoms ≡ Empty → true ≡ list_all test (claims_of s f (atoms_of atoms) routes)
-  no_more_claims atoms routes e = sym (ap (λ t. list_all test (claims_of s f (atoms_of t) routes)) e)
+module _ (test : Claim → Bool) (s : Scene) (f : Tree → Tree) (trees : List KindTree) (xs : List NumberedAtom) (k : ℕ) (t : Tree) where
+  abbrev all_from : ℕ → Tree → Bool
+  all_from k t = list_all test (claims_of s f (atoms_seen trees (drop k xs)) t)
 
-  module _ (atoms : Tree) (h : Head) (a more : Tree) (e : atoms ≡ Node h a more) where
-    pub no_more_routes : (routes : Tree) → routes ≡ Empty → true ≡ list_all test (claims_of s f (atoms_of atoms) routes)
-    no_more_routes routes g = sym (ap₂ (λ t r. list_all test (claims_of s f (atoms_of t) r)) e g)
+  pub no_more_claims : length xs ≤ k → true ≡ all_from k t
+  no_more_claims l = sym (ap (λ ys. list_all test (claims_of s f (atoms_seen trees ys) t)) (drop_all k xs l))
 
-    module _ (routes : Tree) (k : Head) (r rest : Tree) (g : routes ≡ Node k r rest) (b : Bool) (i : b ≡ test (claim_of s f (atom_of a) r)) where
-      one_claim : list_all test (claims_of s f (atoms_of atoms) routes) ≡ (b && list_all test (claims_of s f (atoms_of more) rest))
-      one_claim = ap₂ (λ t u. list_all test (claims_of s f (atoms_of t) u)) e g ∙ ap (λ d. d && list_all test (claims_of s f (atoms_of more) rest)) (sym i)
+  module _ (d : NumberedAtom) (l : k < length xs) where
+    pub no_more_routes : t ≡ Empty → true ≡ all_from k t
+    no_more_routes e = sym (ap₂ (λ ys u. list_all test (claims_of s f (atoms_seen trees ys) u)) (drop_more xs k d l) e)
 
-      pub bad_claim : b ≡ false → false ≡ list_all test (claims_of s f (atoms_of atoms) routes)
-      bad_claim j = sym (one_claim ∙ ap (λ d. d && list_all test (claims_of s f (atoms_of more) rest)) j)
+    module _ (h : Head) (r rest : Tree) (e : t ≡ Node h r rest) (b : Bool) (i : b ≡ test (claim_of s f (atom_of (tree_at trees (get_or xs k d).atom)) r)) where
+      one_claim : all_from k t ≡ (b && all_from (k + 1) rest)
+      one_claim = ap₂ (λ ys u. list_all test (claims_of s f (atoms_seen trees ys) u)) (drop_more xs k d l) e ∙ ap (λ x. x && all_from (k + 1) rest) (sym i)
 
-      pub next_claim : b ≡ true → list_all test (claims_of s f (atoms_of more) rest) ≡ list_all test (claims_of s f (atoms_of atoms) routes)
-      next_claim j = sym (one_claim ∙ ap (λ d. d && list_all test (claims_of s f (atoms_of more) rest)) j)
+      pub bad_claim : b ≡ false → false ≡ all_from k t
+      bad_claim j = sym (one_claim ∙ ap (λ x. x && all_from (k + 1) rest) j)
+
+      pub next_claim : b ≡ true → all_from (k + 1) rest ≡ all_from k t
+      next_claim j = sym (one_claim ∙ ap (λ x. x && all_from (k + 1) rest) j)
 
 -- the tests of one claim, by what the code has of the route
 
@@ -124,7 +130,7 @@ end_by s p f c r a w b e g j = j ∙ (ap₂ (ends_by s f) e g ∙ sym (claim_end
 
 abbrev pub claims_by : Scene → Correspondence → (place : ℕ) → Saying → List Claim
 claims_by s q p (Never n by) = record { by = by; targets = falsity } ∷ []
-claims_by s q p (With n ws routes) = claims_of s (at_place s q p ws) (only_atoms q) routes
+claims_by s q p (With n ws choice) = claims_of s (at_place s q p ws) (chosen_atoms q.alternatives choice) (routes_of choice)
 claims_by s q p Nothing = []
 
 pub entry_claims_law : (s : Scene) (q : Correspondence) (p : ℕ) (entry : Tree) (x : Saying) → x ≡ saying_of entry → entry_claims s q p entry ≡ claims_by s q p x
@@ -132,7 +138,7 @@ entry_claims_law s q p entry x e = go entry ∙ ap (claims_by s q p) (sym e)
   where
     go : (t : Tree) → entry_claims s q p t ≡ claims_by s q p (saying_of t)
     go (Node AtEntry n (Node NeverEntry by e)) = refl
-    go (Node AtEntry n (Node WithEntry ws routes)) = refl
+    go (Node AtEntry n (Node WithEntry ws choice)) = refl
     go (Node AtEntry n t) = refl
     go t = refl
 
@@ -221,6 +227,7 @@ module _ (routes : Tree) (h : Head) (r rest : Tree) (e : routes ≡ Node h r res
 -- a pair says nothing
 saying_countable : (part : Tree) → IsCountablePart part → IsCountableSaying (saying_of part)
 saying_countable (Node Pair p (Node h q (Node g c by))) n = tt
+saying_countable (Node SecretPair p (Node h q by)) n = tt
 saying_countable part n = n
 
 module _ (parts : Tree) (h : Head) (part more : Tree) (e : parts ≡ Node h part more) (n : AreCountableParts parts) where
@@ -250,8 +257,12 @@ module _ (test : Claim → Bool) (s : Scene) (q : Correspondence) (p : ℕ) (ent
   pub never_claims : (n by : Tree) (b : Bool) → x ≡ Never n by → b ≡ test (record { by = by; targets = falsity }) → b ≡ list_all test (entry_claims s q p entry)
   never_claims n by b f g = g ∙ (sym (and_true _) ∙ sym (ap (list_all test) (entry_claims_law s q p entry x e ∙ ap (claims_by s q p) f)))
 
-  pub with_claims : (n ws routes : Tree) (b : Bool) → x ≡ With n ws routes → b ≡ list_all test (claims_of s (at_place s q p ws) (only_atoms q) routes) → b ≡ list_all test (entry_claims s q p entry)
-  with_claims n ws routes b f g = g ∙ sym (ap (list_all test) (entry_claims_law s q p entry x e ∙ ap (claims_by s q p) f))
+  pub with_claims : (n ws choice : Tree) (m : Option ℕ) (atoms : List (ℕ × Atom)) (routes : Tree) (b : Bool) → x ≡ With n ws choice → m ≡ number_in choice → atoms ≡ atoms_of_chosen (chosen_by q.alternatives m) → routes ≡ routes_of choice
+      → b ≡ list_all test (claims_of s (at_place s q p ws) atoms routes) → b ≡ list_all test (entry_claims s q p entry)
+  with_claims n ws choice m atoms routes b f c a r g =
+      g
+      ∙ (ap₂ (λ us t. list_all test (claims_of s (at_place s q p ws) us t)) (a ∙ ap (λ o. atoms_of_chosen (chosen_by q.alternatives o)) c) r
+      ∙ sym (ap (list_all test) (entry_claims_law s q p entry x e ∙ ap (claims_by s q p) f)))
 
   pub no_claims : x ≡ Nothing → true ≡ list_all test (entry_claims s q p entry)
   no_claims f = sym (ap (list_all test) (entry_claims_law s q p entry x e ∙ ap (claims_by s q p) f))
@@ -259,14 +270,14 @@ module _ (test : Claim → Bool) (s : Scene) (q : Correspondence) (p : ℕ) (ent
 -- an entry with the right form has as many arguments as variables
 
 abbrev Many : Scene → Correspondence → (place : ℕ) → Saying → Type 0
-Many s q p (With n ws routes) = are_for q.variables (arguments_at s.game p) ≡ true
+Many s q p (With n ws choice) = are_for q.variables (arguments_at s.game p) ≡ true
 Many s q p x = Unit {0}
 
 formed_many : (s : Scene) (q : Correspondence) (p : ℕ) (t : Tree) → has_form s q p t ≡ true → Many s q p (saying_of t)
 formed_many s q p (Node AtEntry n (Node NeverEntry by e)) f = tt
-formed_many s q p (Node AtEntry n (Node WithEntry ws routes)) f = (and_parts (are_for q.variables (arguments_at s.game p)) _ (and_parts (is_number p n) _ f).1).0
+formed_many s q p (Node AtEntry n (Node WithEntry ws choice)) f = (and_parts (are_for q.variables (arguments_at s.game p)) _ (and_parts (is_number p n) _ f).1).0
 formed_many s q p (Node AtEntry n t) f = tt
 formed_many s q p t f = tt
 
-pub form_many : (s : Scene) (q : Correspondence) (p : ℕ) (entry n ws routes : Tree) (x : Saying) → x ≡ saying_of entry → x ≡ With n ws routes → has_form s q p entry ≡ true → are_for q.variables (arguments_at s.game p) ≡ true
-form_many s q p entry n ws routes x e g i = subst (Many s q p) (sym e ∙ g) (formed_many s q p entry i)
+pub form_many : (s : Scene) (q : Correspondence) (p : ℕ) (entry n ws choice : Tree) (x : Saying) → x ≡ saying_of entry → x ≡ With n ws choice → has_form s q p entry ≡ true → are_for q.variables (arguments_at s.game p) ≡ true
+form_many s q p entry n ws choice x e g i = subst (Many s q p) (sym e ∙ g) (formed_many s q p entry i)

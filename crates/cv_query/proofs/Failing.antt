@@ -1,6 +1,5 @@
 -- The first condition that fails, place by place.
-use Rattle.std.proofs.Common.{◌≡◌, ℕ, ◌+◌, ◌<◌, ◌≤◌, Bool, true, false, List, [], ◌∷◌, drop, get_or, length, Option, Some, None, refl, sym, ap, ap₂, ◌∙◌}
-use Rattle.std.specs.Prelude.{if◌then◌else◌}
+use Rattle.std.proofs.Common.{◌≡◌, ℕ, ◌+◌, ◌<◌, ◌≤◌, Bool, true, false, List, drop, get_or, length, Option, Some, None, refl, sym, ap, ap₂, ◌∙◌}
 use Rattle.std.specs.List.{list_all}
 use Rattle.std.proofs.lemmas.List.{drop_all, drop_more}
 use Rattle.cv_lists.specs.Options.{first_of}
@@ -8,15 +7,13 @@ use Rattle.cv_syntax_trees.specs.declared.head.Head.{Head}
 use Rattle.cv_syntax_trees.specs.declared.head.Head.TheVariants.{EventsCertificate}
 use Rattle.cv_syntax_trees.specs.Tree.{Tree, Empty, Node, first, second}
 use Rattle.cv_syntax.proofs.Trees.{tree_of_NoTree}
-use Rattle.cv_meaning.specs.Correspondences.{Correspondence, atoms_of, correspondence_of, event_of, is_once, leaf_names, numbered, on_the_right_alone}
+use Rattle.cv_meaning.specs.Correspondences.{Correspondence, alternatives_of, correspondence_of, event_of, is_once, leaf_names, on_the_right_alone}
 use Rattle.cv_scene.specs.Derivations.{unless}
 use Rattle.cv_scene.specs.Scenes.{Scene}
-use Rattle.cv_query_certificates.specs.Alternatives.{is_list}
 use Rattle.cv_query_certificates.specs.Claims.{Claim, entry_claims}
-use Rattle.cv_query_certificates.specs.Failures.{Failure, certificate_failure, certificate_refused, correspondence_failure, failure, first_failing, first_unformed, least_place}
+use Rattle.cv_query_certificates.specs.Failures.{Failure, certificate_failure, failure, first_failing, first_unformed, least_place}
 use Rattle.cv_query_certificates.specs.Forms.{has_form, left_places}
 use Rattle.cv_lists.proofs.Options.{some_none}
-use Rattle.cv_query_certificates.proofs.Alternatives.{list_only}
 
 parts_none : (x y : Option ℕ) → first_of x y ≡ None → (x ≡ None) × (y ≡ None)
 parts_none None y e = (refl, e)
@@ -91,24 +88,14 @@ module _ (s : Scene) (q : Correspondence) where
       go EventsCertificate n = absurd (n refl)
       go h n = refl
 
--- a correspondence by its parts, where its right side is a list or isn't
+-- a correspondence by its parts
 
-module _ (s : Scene) (h : Head) (bs sides c : Tree) where
-  abbrev query : Tree
-  query = Node h bs sides
+pub of_parts : (s : Scene) (h : Head) (bs sides c : Tree) (q : Correspondence) → q.inj ≡ is_once (first sides) → q.event ≡ event_of (first sides) → q.variables ≡ leaf_names (first (first sides))
+    → q.others ≡ on_the_right_alone bs (leaf_names (first (first sides))) (second sides) → q.alternatives ≡ alternatives_of (second sides)
+    → certificate_failure s q c ≡ certificate_failure s (correspondence_of (Node h bs sides)) c
+of_parts s h bs sides c q i k l m n = ap (λ r. certificate_failure s r c) same
+  where
+    same : q ≡ correspondence_of (Node h bs sides)
+    same = λ j. record { inj = i j; event = k j; variables = l j; others = m j; alternatives = n j }
 
-  module _ (b : Bool) (e : b ≡ is_list (second sides)) where
-    pub no_list : b ≡ false → failed 2 (least_place (left_places s (correspondence_of query))) ≡ correspondence_failure s query c
-    no_list f = sym (ap (λ d. if d then certificate_failure s (correspondence_of query) c else certificate_refused s (correspondence_of query)) (sym e ∙ f))
-
-    pub of_list : b ≡ true → (q : Correspondence) → q.inj ≡ is_once (first sides) → q.event ≡ event_of (first sides) → q.variables ≡ leaf_names (first (first sides))
-        → q.others ≡ on_the_right_alone bs (leaf_names (first (first sides))) (second sides) → q.alternatives ≡ numbered 1 (atoms_of (second sides)) ∷ []
-        → certificate_failure s q c ≡ correspondence_failure s query c
-    of_list f q i k l m n =
-        ap (λ r. certificate_failure s r c) same
-        ∙ sym (ap (λ d. if d then certificate_failure s (correspondence_of query) c else certificate_refused s (correspondence_of query)) (sym e ∙ f))
-      where
-        same : q ≡ correspondence_of query
-        same = λ j. record { inj = i j; event = k j; variables = l j; others = m j; alternatives = (n ∙ sym (list_only (second sides) (sym e ∙ f))) j }
-
-pub ruleset failing = (tree_of_NoTree, form_fails, line_fails, end_fails, rest_fails, no_certificate, other_certificate, no_list, of_list)
+pub ruleset failing = (tree_of_NoTree, form_fails, line_fails, end_fails, rest_fails, no_certificate, other_certificate, of_parts)

@@ -1,5 +1,5 @@
 pub mod Claimed
+pub mod Secrecy
 pub mod Left
-pub mod offences
 pub mod kinds
 pub mod pairs

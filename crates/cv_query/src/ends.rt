@@ -2,7 +2,6 @@ ghost use Rattle.std.specs.Prelude.{◌≡◌, ◌∷◌, ℕ, IfOk, None, lengt
 ghost use Rattle.std.specs.List.{list_all};
 ghost use Rattle.cv_pool.specs.Nodes.{ChildBelow};
 ghost use Rattle.cv_syntax.specs.PoolTrees.{tree_at};
-ghost use Rattle.cv_meaning.specs.Correspondences.{atoms_of};
 ghost use Rattle.cv_scene.specs.lines.Ends.{is_end};
 ghost use Rattle.cv_scene.specs.lines.Lines.{IsDefined, lines_of, statements};
 ghost use Rattle.cv_query_certificates.specs.Claims.{behind_cell, claims_of, entry_claims};
@@ -13,6 +12,7 @@ ghost use Rattle.cv_query_certificates.specs.Forms.{has_form};
 ghost use Rattle.cv_query_entries.specs.ends.Said.{said_equal};
 ghost use Rattle.cv_query_entries.specs.terms.Given.{put};
 ghost use Rattle.cv_query_entries.specs.terms.Parts.{IsGivenBelow, terms_of};
+ghost use Rattle.cv_query_parts.specs.Alternatives.{AreAtomsBelow, atoms_seen};
 ghost use Rattle.cv_query_parts.specs.Said.{IsAtomBelow, IsRouteBelow, atom_seen, way_seen};
 ghost use Rattle.cv_query_parts.specs.Views.{IsAskedBelow, IsReady, asked_of, game_of, scene_of, trees_of};
 ghost use Rattle.cv_query.specs.Claimed.{ends_by};
@@ -23,7 +23,10 @@ use cv_query_entries::ends::{
 };
 use cv_query_entries::rows_above;
 use cv_query_entries::terms::{Given, Part};
-use cv_query_parts::{Asked, Atom, Entry, Route, View, atom_of, entry_of, route_of};
+use cv_query_parts::{
+    Asked, Atom, Entry, NumberedAtom, Route, View, atom_of, choice_of, chosen_atoms, entry_of,
+    route_of,
+};
 use cv_syntax::children::first_of;
 use cv_syntax::{NodeId, read_node};
 use std::alloc::{AllocError, Global};
@@ -152,34 +155,31 @@ fn have_ends(
     alloc: Global,
     view: &View,
     given: &Given,
-    atoms: Option<NodeId>,
+    atoms: &[NumberedAtom],
     routes: Option<NodeId>,
 ) -> Result<bool, AllocError>
     requires ready { IsReady view.now }
     requires given { IsGivenBelow (length (trees_of view.now)) given.now }
-    requires atoms { ChildBelow (length (trees_of view.now)) atoms }
+    requires atoms { AreAtomsBelow (length (trees_of view.now)) atoms.now }
     requires routes { ChildBelow (length (trees_of view.now)) routes }
     ensures { (p : ℕ) → IfOk result (λ ends. ends ≡ list_all (failures.has_end (scene_of view.now) p)
         (claims_of (scene_of view.now) (put (terms_of (trees_of view.now) given.now))
-        (atoms_of (tree_at (trees_of view.now) atoms)) (tree_at (trees_of view.now) routes))) }
+        (atoms_seen (trees_of view.now) atoms.now) (tree_at (trees_of view.now) routes))) }
 {
     let pool = &view.work.pool;
-    let mut at = atoms;
-    let mut behind = routes;
-    'atoms: while let Some(m) = at {
-        let asked = read_node(pool, m);
-        let Some(n) = behind else {
+    let mut at = routes;
+    'atoms: for k in 0..atoms.len() {
+        let Some(n) = at else {
             return Ok(true);
         };
-        let there = read_node(pool, n);
-        let atom = atom_of(pool, asked.first);
-        let route = route_of(pool, there.first);
+        let node = read_node(pool, n);
+        let atom = atom_of(pool, atoms[k].atom);
+        let route = route_of(pool, node.first);
         let ends = has_end(alloc, view, given, atom, route)?;
         if !ends {
             return Ok(false);
         }
-        at = asked.second;
-        behind = there.second;
+        at = node.second;
     }
     Ok(true)
 }
@@ -206,7 +206,7 @@ fn has_ends(
         Entry::Never { by, .. } => Ok(ends_with_falsity(&view.work.pool, by)),
         Entry::With {
             witnesses,
-            routes,
+            choice,
             ..
         } => {
             let given = Given {
@@ -215,7 +215,9 @@ fn has_ends(
                 others: asked.others,
                 terms: witnesses,
             };
-            let ends = have_ends(alloc, view, &given, asked.atoms, routes)?;
+            let choice = choice_of(&view.work.pool, choice);
+            let atoms = chosen_atoms(asked.alternatives, choice.number);
+            let ends = have_ends(alloc, view, &given, atoms, choice.routes)?;
             Ok(ends)
         }
         Entry::Other => Ok(true),

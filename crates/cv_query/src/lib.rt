@@ -4,7 +4,6 @@
 mod claims;
 mod ends;
 pub mod kinds;
-pub mod offences;
 mod pairs;
 mod right;
 mod secrets;

@@ -4,13 +4,13 @@ ghost use Rattle.cv_pool.specs.Nodes.{ChildBelow};
 ghost use Rattle.cv_syntax_trees.specs.Tree.{Tree};
 ghost use Rattle.cv_syntax.specs.PoolTrees.{tree_at};
 ghost use Rattle.cv_typing.specs.Tables.{above_of};
-ghost use Rattle.cv_meaning.specs.Correspondences.{atoms_of};
 ghost use Rattle.cv_scene.specs.Derivations.{first_bad_line};
 ghost use Rattle.cv_scene.specs.Sights.{sight_at};
 ghost use Rattle.cv_scene.specs.Terms.{above_at, replications_at as replications_there};
 ghost use Rattle.cv_query_certificates.specs.Claims.{claims_of, entry_claims};
 ghost use Rattle.cv_query_certificates.specs.Failures as failures;
 ghost use Rattle.cv_query_certificates.specs.Failures.{first_failing};
+ghost use Rattle.cv_query_parts.specs.Alternatives.{AreAtomsBelow, atoms_seen};
 ghost use Rattle.cv_query_parts.specs.Views.{IsAskedBelow, IsReady, asked_of, scene_of, trees_of};
 ghost use Rattle.cv_query_parts.specs.Countable.{AreCountable, AreCountableParts, IsCountable, IsCountableSaying};
 ghost use Rattle.cv_query_parts.specs.Said.{saying_of};
@@ -18,7 +18,9 @@ ghost use Rattle.cv_query_parts.specs.Said.{saying_of};
 use crate::claims::derivation_of;
 use cv_derive::{DeriveFault, check};
 use cv_directory_sorts::Sort;
-use cv_query_parts::{Asked, Entry, View, atom_of, entry_of, route_of};
+use cv_query_parts::{
+    Asked, Entry, NumberedAtom, View, atom_of, choice_of, chosen_atoms, entry_of, route_of,
+};
 use cv_scene_view::{indices_at, replications_at};
 use cv_syntax::{Game, NodeId, read_node};
 use std::alloc::{AllocError, Global};
@@ -73,36 +75,33 @@ fn are_right(
     above: &HashMap<u32, Sort>,
     rows: &[(u32, u32)],
     place: u32,
-    atoms: Option<NodeId>,
+    atoms: &[NumberedAtom],
     routes: Option<NodeId>,
 ) -> bool
     requires ready { IsReady view.now }
     requires above { above_of above.now ≡ above_at (scene_of view.now) place }
     requires rows { rows.now ≡ replications_there (scene_of view.now) place }
-    requires atoms { ChildBelow (length (trees_of view.now)) atoms }
+    requires atoms { AreAtomsBelow (length (trees_of view.now)) atoms.now }
     requires routes { ChildBelow (length (trees_of view.now)) routes }
     requires few { AreCountable (tree_at (trees_of view.now) routes) }
     ensures { (put : Tree → Tree) → result ≡ list_all (failures.is_right (scene_of view.now) place)
-        (claims_of (scene_of view.now) put (atoms_of (tree_at (trees_of view.now) atoms))
+        (claims_of (scene_of view.now) put (atoms_seen (trees_of view.now) atoms.now)
         (tree_at (trees_of view.now) routes)) }
 {
     let pool = &view.work.pool;
-    let mut at = atoms;
-    let mut behind = routes;
-    'atoms: while let Some(m) = at {
-        let asked = read_node(pool, m);
-        let Some(n) = behind else {
+    let mut at = routes;
+    'atoms: for k in 0..atoms.len() {
+        let Some(n) = at else {
             return true;
         };
-        let given = read_node(pool, n);
-        let atom = atom_of(pool, asked.first);
-        let route = route_of(pool, given.first);
+        let node = read_node(pool, n);
+        let atom = atom_of(pool, atoms[k].atom);
+        let route = route_of(pool, node.first);
         let by = derivation_of(atom, route);
         if !is_right(view, above, rows, place, by) {
             return false;
         }
-        at = asked.second;
-        behind = given.second;
+        at = node.second;
     }
     true
 }
@@ -129,8 +128,10 @@ fn has_right_lines(
     let rows = replications.as_slice();
     match entry_of(&view.work.pool, part) {
         Entry::Never { by, .. } => Ok(is_right(view, &above, rows, place, by)),
-        Entry::With { routes, .. } => {
-            Ok(are_right(view, &above, rows, place, asked.atoms, routes))
+        Entry::With { choice, .. } => {
+            let choice = choice_of(&view.work.pool, choice);
+            let atoms = chosen_atoms(asked.alternatives, choice.number);
+            Ok(are_right(view, &above, rows, place, atoms, choice.routes))
         }
         Entry::Other => Ok(true),
     }

@@ -2,9 +2,10 @@ ghost use Rattle.std.specs.Prelude.{◌≡◌, IfOk, Some, length, option_map};
 ghost use Rattle.cv_pool.specs.Nodes.{ChildBelow};
 ghost use Rattle.cv_syntax_trees.specs.Tree.{Node};
 ghost use Rattle.cv_syntax.specs.PoolTrees.{tree_at};
+ghost use Rattle.cv_meaning.specs.Correspondences.{correspondence_of};
 ghost use Rattle.cv_query_certificates.specs.EventNodes.{event_places as event_places_of};
 ghost use Rattle.cv_query_certificates.specs.Failures as failures;
-ghost use Rattle.cv_query_certificates.specs.Failures.{certificate_failure, correspondence_failure, parts_failure, rest_failure, secret_failure};
+ghost use Rattle.cv_query_certificates.specs.Failures.{certificate_failure, parts_failure, rest_failure, secret_failure};
 ghost use Rattle.cv_query_certificates.specs.Forms.{left_places};
 ghost use Rattle.cv_query_certificates.specs.Marks.{raise_of};
 ghost use Rattle.cv_query_certificates.specs.PairParts.{behind_entries as behind_entries_of};
@@ -12,18 +13,19 @@ ghost use Rattle.cv_scene_view.specs.Kept.{scene_of as scene_in};
 ghost use Rattle.cv_query_parts.specs.Views.{IsAskedBelow, IsReady, IsReadyIn, asked_of, game_of, scene_of, trees_of};
 ghost use Rattle.cv_query.specs.Claimed.{failure_of};
 ghost use Rattle.cv_query.specs.Left.{IsLeft, IsOutcome, answer_of, rest_of};
+ghost use Rattle.cv_query.specs.Secrecy.{by_pairs};
+ghost use Rattle.cv_query.specs.pairs.CopyPairs.{AreLeft};
 ghost use Rattle.cv_query.specs.pairs.Proved.{IsAsBefore};
 ghost use Rattle.cv_query_parts.specs.Countable.{AreCountableParts, IsCountableCertificate};
 
 use crate::ends::first_unfinished;
-use crate::kinds::is_list;
-use crate::pairs::{first_unfit_name, first_wrong_pair};
+use crate::pairs::{first_unfit_name, first_wrong_pair, first_wrong_secret};
 use crate::right::first_wrong;
-use crate::secrets::{failed, secret_checked};
+use crate::secrets::{Secrecy, failed, secret_checked};
 use cv_query_entries::terms::right_alone;
 use cv_query_entries::{event_places, first_unformed};
 use cv_query_parts::pairs::{Walked, behind_entries, names_in, rest_of as rest_in, walk_pairs};
-use cv_query_parts::{Asked, View, left_event};
+use cv_query_parts::{Asked, View, alternatives_of, left_event};
 use cv_syntax::children::{first_of, second_of};
 use cv_syntax::{Head, NodeId, Opened, Work, read_node};
 use cv_typing::Arrays;
@@ -45,11 +47,13 @@ pub(crate) struct Left {
     pub(crate) walked: Walked,
 }
 
-/// What the conditions say for whose test the pool need not grow: the first one that fails, that none does, or what is left.
+/// What the conditions say for whose test the pool need not grow: the first one that fails, that none does, what is left, or that the
+/// secrecy of a variable hangs on these pairs.
 #[derive(Drop)]
 enum Outcome {
     Decided(Option<Failure>),
     Open(Left),
+    Secret(u32, Option<NodeId>),
 }
 
 /// What stands behind the entries.
@@ -165,8 +169,7 @@ fn certificate_checked(
     }
 }
 
-/// The first condition that fails of a certificate for a query that is a correspondence. Where its right side isn't a list no
-/// certificate is one.
+/// The first condition that fails of a certificate for a query that is a correspondence.
 #[tactic(auto, using(crate::proofs::Failing::failing))]
 fn correspondence_checked(
     alloc: Global,
@@ -180,30 +183,28 @@ fn correspondence_checked(
     requires certificate { ChildBelow (length (trees_of view.now)) certificate }
     requires few { IsCountableCertificate (tree_at (trees_of view.now) certificate) }
     ensures answer { IfOk result (λ o. answer_of (scene_of view.now) (trees_of view.now) o
-        ≡ correspondence_failure (scene_of view.now)
-        (Node query.head (tree_at (trees_of view.now) query.first)
-        (tree_at (trees_of view.now) query.second))
+        ≡ certificate_failure (scene_of view.now)
+        (correspondence_of (Node query.head (tree_at (trees_of view.now) query.first)
+        (tree_at (trees_of view.now) query.second)))
         (tree_at (trees_of view.now) certificate)) }
     ensures left { IfOk result (IsOutcome (trees_of view.now)) }
 {
     let pool = &view.work.pool;
     let left = left_event(pool, first_of(pool, query.second));
-    let atoms = second_of(pool, query.second);
-    if !is_list(pool, atoms) {
-        return other_kind(alloc, view, left.event);
-    }
-    let others = right_alone(alloc, pool, query.first, left.variables, atoms)?;
+    let right = second_of(pool, query.second);
+    let others = right_alone(alloc, pool, query.first, left.variables, right)?;
+    let alternatives = alternatives_of(alloc, pool, right)?;
     let asked = Asked {
         inj: left.inj,
         event: left.event,
         variables: left.variables,
         others: others.as_slice(),
-        atoms,
+        alternatives: alternatives.as_slice(),
     };
     certificate_checked(alloc, view, &asked, certificate)
 }
 
-/// The first condition that fails of a certificate for the secrecy of a variable.
+/// The first condition that fails of a certificate for the secrecy of a variable, but that of its pairs.
 fn secrecy_checked(
     alloc: Global,
     view: &View,
@@ -213,12 +214,15 @@ fn secrecy_checked(
 ) -> Result<Outcome, AllocError>
     requires ready { IsReady view.now }
     requires certificate { ChildBelow (length (trees_of view.now)) certificate }
+    requires few { IsCountableCertificate (tree_at (trees_of view.now) certificate) }
     ensures answer { IfOk result (λ o. answer_of (scene_of view.now) (trees_of view.now) o
         ≡ secret_failure once (scene_of view.now) x (tree_at (trees_of view.now) certificate)) }
     ensures left { IfOk result (IsOutcome (trees_of view.now)) }
 {
-    let failure = secret_checked(alloc, view, once, x, certificate)?;
-    Ok(Outcome::Decided(failure))
+    match secret_checked(alloc, view, once, x, certificate)? {
+        Secrecy::Decided(failure) => Ok(Outcome::Decided(failure)),
+        Secrecy::ByPairs(pairs) => Ok(Outcome::Secret(x, pairs)),
+    }
 }
 
 /// The first condition that fails of a certificate, but those of pairs.
@@ -279,9 +283,30 @@ fn left_checked(
     }
 }
 
+/// The first condition that fails of the pairs of a variable's secrecy.
+fn secret_pairs_checked(
+    alloc: Global,
+    work: &mut Work,
+    game: NodeId,
+    arrays: &Arrays,
+    x: u32,
+    pairs: Option<NodeId>,
+) -> Result<Option<Failure>, AllocError>
+    requires ready { IsReadyIn work.old.pool.trees work.old.decls.list game arrays.now }
+    requires pairs { AreLeft work.old.pool.trees pairs }
+    ensures failure { IfOk result (λ f. option_map failure_of f ≡ by_pairs
+        (scene_in work.old.pool work.old.decls game) x (tree_at work.old.pool.trees pairs)) }
+    ensures before { IsAsBefore work.old work.new }
+{
+    match first_wrong_secret(alloc, work, game, arrays, x, pairs)? {
+        Some(place) => Ok(Some(failed(5, place))),
+        None => Ok(None),
+    }
+}
+
 /// Tests a certificate in a game: the first of its conditions that fails, with its place, and nothing where it is accepted. It takes memory
 /// for the places of the left event, for the indices above each of them, for the variables on the right alone, and for the pairs; of secrecy
-/// for the variables that the variable copies. The derivation of a pair is read over names that are made for it in the pool, one pair after
+/// for the variables that the variable copies, and for its copies. The derivation of a pair is read over names that are made for it in the pool, one pair after
 /// another, and the pool's trees are as before at the end. A pool without room for it, or without such names, is want of memory.
 pub fn check(
     alloc: Global,
@@ -308,5 +333,6 @@ pub fn check(
     match entries_checked(alloc, &view, query, certificate)? {
         Outcome::Decided(failure) => Ok(failure),
         Outcome::Open(left) => left_checked(alloc, work, game, arrays, left),
+        Outcome::Secret(x, pairs) => secret_pairs_checked(alloc, work, game, arrays, x, pairs),
     }
 }

@@ -1,7 +1,7 @@
 -- Where no condition of a certificate fails it is accepted, and the other way round.
 use Rattle.std.proofs.Common.{◌≡◌, ◌↔◌, ℕ, Bool, true, false, List, [], ◌∷◌, Option, Some, None, inl, inr, refl, sym, ap, ap₂, ◌∙◌}
-use Rattle.std.specs.Prelude.{not, if◌then◌else◌, is_some}
-use Rattle.std.proofs.lemmas.Bool.{both_ways, and_parts, and_from}
+use Rattle.std.specs.Prelude.{not, is_some}
+use Rattle.std.proofs.lemmas.Bool.{and_parts, and_from}
 use Rattle.std.specs.List.{AllByRecursion, list_all}
 use Rattle.cv_lists.specs.Options.{first_of}
 use Rattle.cv_syntax_trees.specs.declared.head.Head.TheVariants.{EventsCertificate, Query, Secret, SecretCertificate, SecretOnce}
@@ -10,17 +10,18 @@ use Rattle.cv_meaning.specs.Correspondences.{Correspondence, correspondence_of}
 use Rattle.cv_scene.specs.Derivations.{first_bad_line, unless}
 use Rattle.cv_scene.specs.Scenes.{Scene}
 use Rattle.cv_scene.specs.Sights.{sight_at}
-use Rattle.cv_query_certificates.specs.Accepted.{AreEntries, AreParts, IsAccepted, IsRest, IsEventsProof, IsProofOf, IsSecretProof, Proves, is_built}
-use Rattle.cv_query_certificates.specs.Alternatives.{has_list}
+use Rattle.cv_query_certificates.specs.Accepted.{AreEntries, AreParts, IsAccepted, IsRest, IsEventsProof, IsProofOf, IsSecretOfMany, IsSecretProof, Proves, is_query}
 use Rattle.cv_query_certificates.specs.Claims.{Claim, entry_claims}
-use Rattle.cv_query_certificates.specs.Failures.{certificate_failure, certificate_refused, correspondence_failure, failure, first_failing, first_failure, first_surplus, first_unformed, forms_failure, has_end, is_right, parts_failure, query_failure, rest_failure, secret_failure, surplus_entry}
+use Rattle.cv_query_certificates.specs.Failures.{certificate_failure, failure, failure_by, first_failing, first_failure, first_surplus, first_unformed, forms_failure, has_end, is_right, parts_failure, query_failure, rest_failure, secret_failure, surplus_entry}
 use Rattle.cv_query_certificates.specs.Forms.{has_form, left_places}
 use Rattle.cv_query_certificates.specs.Marks.{raise_of}
-use Rattle.cv_query_certificates.specs.PairParts.{behind_entries, distinct_in, first_unfit_name, first_wrong_pair, pairs_in}
+use Rattle.cv_query_certificates.specs.PairParts.{behind_entries, distinct_in, first_wrong_pair, pairs_in}
 use Rattle.cv_query_certificates.specs.Pairs.{needed_pairs}
+use Rattle.cv_query_certificates.specs.SecretPairs.{first_wrong_secret, needed_secrets}
 use Rattle.cv_query_certificates.specs.Secrets.{AreUnreadChoices, AreUnreadCopies, IsSecret, earlier, first_offence_of_choices, first_offence_of_copies}
 use Rattle.cv_lists.proofs.Options.{some_none, none_from_not_some, first_of_none}
 use Rattle.cv_query_certificates.proofs.Pairing.{names_pass, names_stand, no_entry, pairs_pass, pairs_stand}
+use Rattle.cv_query_certificates.proofs.SecretPairing.{none_given, secrets_pass, secrets_stand}
 
 both_none : {A : Type 0} (x y : Option A) → x ≡ None → y ≡ None → first_of x y ≡ None
 both_none x y e f = ap (λ z. first_of z y) e ∙ f
@@ -148,57 +149,64 @@ module _ (s : Scene) (x : ℕ) where
   copies_pass : AreUnreadCopies s x → first_offence_of_copies s x ≡ None
   copies_pass a = both_earlier _ _ a.copies a.unread
 
-  -- by the first offences against both forms
-  stands_by : (once : Bool) (p q : Option ℕ) → p ≡ first_offence_of_choices s.game x → q ≡ first_offence_of_copies s x → forms_failure once s.game x p q ≡ None → IsSecret once s x
-  stands_by true None q e f n = inl (choices_stand (sym e))
-  stands_by false None q e f n = choices_stand (sym e)
-  stands_by true (Some p) None e f n = inr (copies_stand (sym f))
-  stands_by false (Some p) None e f n = absurd (some_none _ n)
-  stands_by once (Some p) (Some q) e f n = absurd (some_none _ n)
+  -- by the first offences against both forms, for one session and for many
 
-  no_choices : (once : Bool) (p q : Option ℕ) → p ≡ None → forms_failure once s.game x p q ≡ None
-  no_choices once p q e = ap (λ o. forms_failure once s.game x o q) e
+  stands_once : (p q : Option ℕ) → p ≡ first_offence_of_choices s.game x → q ≡ first_offence_of_copies s x → forms_failure s.game x p q ≡ None → IsSecret s x
+  stands_once None q e f n = inl (choices_stand (sym e))
+  stands_once (Some p) None e f n = inr (copies_stand (sym f))
+  stands_once (Some p) (Some q) e f n = absurd (some_none _ n)
 
-  no_copies : (p q : Option ℕ) → q ≡ None → forms_failure true s.game x p q ≡ None
+  stands_many : (p q : Option ℕ) → p ≡ first_offence_of_choices s.game x → q ≡ first_offence_of_copies s x → (pairs : Tree) → failure_by false s x p q pairs ≡ None → IsSecretOfMany s x p pairs
+  stands_many None q e f pairs n = (choices_stand (sym e), none_given pairs (failure_none 5 _ (first_of_none (failure 5 (first_surplus pairs)) _ n).0))
+  stands_many (Some p) None e f pairs n =
+      let k = raise_of s pairs in
+      (copies_stand (sym f), secrets_stand s k (needed_secrets s k x) pairs (failure_none 5 _ (first_of_none (failure 5 (first_wrong_secret s k (needed_secrets s k x) pairs)) _ n).0))
+  stands_many (Some p) (Some q) e f pairs n =
+      absurd (some_none _ (first_of_none (failure 5 (first_surplus pairs)) (forms_failure s.game x (Some p) (Some q)) n).1)
+
+  no_choices : (p q : Option ℕ) → p ≡ None → forms_failure s.game x p q ≡ None
+  no_choices p q e = ap (λ o. forms_failure s.game x o q) e
+
+  no_copies : (p q : Option ℕ) → q ≡ None → forms_failure s.game x p q ≡ None
   no_copies None q e = refl
-  no_copies (Some p) q e = ap (forms_failure true s.game x (Some p)) e
+  no_copies (Some p) q e = ap (forms_failure s.game x (Some p)) e
 
-  passes_by : (once : Bool) → IsSecret once s x → forms_failure once s.game x (first_offence_of_choices s.game x) (first_offence_of_copies s x) ≡ None
-  passes_by true (inl a) = no_choices true _ _ (choices_pass a)
-  passes_by true (inr a) = no_copies _ _ (copies_pass a)
-  passes_by false a = no_choices false _ _ (choices_pass a)
+  passes_once : IsSecret s x → forms_failure s.game x (first_offence_of_choices s.game x) (first_offence_of_copies s x) ≡ None
+  passes_once (inl a) = no_choices _ _ (choices_pass a)
+  passes_once (inr a) = no_copies _ _ (copies_pass a)
+
+  passes_many : (p : Option ℕ) (pairs : Tree) → IsSecretOfMany s x p pairs → failure_by false s x p (first_offence_of_copies s x) pairs ≡ None
+  passes_many None pairs a = ap (failure_by false s x None (first_offence_of_copies s x)) a.1
+  passes_many (Some p) pairs a =
+      let k = raise_of s pairs in
+      ap (λ q. failure_by false s x (Some p) q pairs) (copies_pass a.0) ∙ ap (λ o. first_of (failure 5 o) None) (secrets_pass s k (needed_secrets s k x) pairs a.1)
 
   secret_stands : (once : Bool) (c : Tree) → secret_failure once s x c ≡ None → IsSecretProof once s x c
-  secret_stands once (Node SecretCertificate Empty e) n = stands_by once _ _ refl refl n
-  secret_stands once (Node SecretCertificate (Node h part more) e) n = absurd (some_none _ n)
+  secret_stands true (Node SecretCertificate Empty e) n = stands_once _ _ refl refl n
+  secret_stands true (Node SecretCertificate (Node h part more) e) n = absurd (some_none _ n)
+  secret_stands false (Node SecretCertificate pairs e) n = stands_many _ _ refl refl pairs n
   secret_stands once c n = absurd (some_none _ n)
 
   secret_fails_nowhere : (once : Bool) (c : Tree) → IsSecretProof once s x c → secret_failure once s x c ≡ None
-  secret_fails_nowhere once (Node SecretCertificate Empty e) a = passes_by once a
+  secret_fails_nowhere true (Node SecretCertificate Empty e) a = passes_once a
+  secret_fails_nowhere false (Node SecretCertificate pairs e) a = passes_many (first_offence_of_choices s.game x) pairs a
   secret_fails_nowhere once c a = absurd a
 
 module _ (s : Scene) where
-  -- a query whose right side is a list
-  of_list : (query c : Tree) → has_list query ≡ true → certificate_failure s (correspondence_of query) c ≡ correspondence_failure s query c
-  of_list query c l = sym (ap (λ b. if b then certificate_failure s (correspondence_of query) c else certificate_refused s (correspondence_of query)) l)
-
-  built_list : (bs sides c : Tree) → is_built (Node Query bs sides) c ≡ true → has_list (Node Query bs sides) ≡ true
-  built_list bs sides c b = b
-
-  query_stands : (query c : Tree) → is_built query c ≡ true → query_failure s query c ≡ None → IsProofOf s query c
+  query_stands : (query c : Tree) → is_query query ≡ true → query_failure s query c ≡ None → IsProofOf s query c
+  query_stands (Node Query bs sides) c b n = certificate_stands s (correspondence_of (Node Query bs sides)) c n
   query_stands (Node (Secret x) a d) c b n = secret_stands s x false c n
   query_stands (Node (SecretOnce x) a d) c b n = secret_stands s x true c n
-  query_stands (Node Query bs sides) c b n = certificate_stands s (correspondence_of (Node Query bs sides)) c (of_list (Node Query bs sides) c (built_list bs sides c b) ∙ n)
-  query_stands query c b n = absurd (both_ways _ refl b)
+  query_stands query c b n = absurd (cc)
 
-  query_fails_nowhere : (query c : Tree) → is_built query c ≡ true → IsProofOf s query c → query_failure s query c ≡ None
-  query_fails_nowhere (Node (Secret x) a d) c b p = secret_fails_nowhere s x false c p
-  query_fails_nowhere (Node (SecretOnce x) a d) c b p = secret_fails_nowhere s x true c p
-  query_fails_nowhere (Node Query bs sides) c b p = sym (of_list (Node Query bs sides) c (built_list bs sides c b)) ∙ certificate_fails_nowhere s (correspondence_of (Node Query bs sides)) c p
-  query_fails_nowhere query c b p = absurd (both_ways _ refl b)
+  query_fails_nowhere : (query c : Tree) → IsProofOf s query c → query_failure s query c ≡ None
+  query_fails_nowhere (Node Query bs sides) c p = certificate_fails_nowhere s (correspondence_of (Node Query bs sides)) c p
+  query_fails_nowhere (Node (Secret x) a d) c p = secret_fails_nowhere s x false c p
+  query_fails_nowhere (Node (SecretOnce x) a d) c p = secret_fails_nowhere s x true c p
+  query_fails_nowhere query c p = absurd p
 
-pub decided : (s : Scene) (query certificate : Tree) → is_built query certificate ≡ true → IsAccepted s query certificate ↔ (first_failure s (Some query) certificate ≡ None)
+pub decided : (s : Scene) (query certificate : Tree) → is_query query ≡ true → IsAccepted s query certificate ↔ (first_failure s (Some query) certificate ≡ None)
 decided s query certificate b = (
-  λ a. query_fails_nowhere s query certificate b a.proof,
-  λ e. record { built = b; proof = query_stands s query certificate b e },
+  λ a. query_fails_nowhere s query certificate a.proof,
+  λ e. record { proof = query_stands s query certificate b e },
 )

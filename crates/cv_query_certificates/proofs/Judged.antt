@@ -23,8 +23,10 @@ use Rattle.cv_scene.specs.lines.Lines as lines
 use Rattle.cv_query_certificates.specs.EventNodes.{event_places}
 use Rattle.cv_query_certificates.specs.Failures.{first_failure}
 use Rattle.cv_query_certificates.specs.Marks.{names_end, plain}
+use Rattle.cv_query_certificates.specs.SecretPairs.{copies_in}
 use Rattle.cv_query_certificates.specs.Secrets.{AreUnreadCopies, first_definition_but, first_other_read, sources}
 use Rattle.cv_query_certificates.specs.WorkedSecrets.{Fails, copied, secret_cases}
+use Rattle.cv_query_certificates.specs.WorkedAlternatives.{one_above, one_above_cases, two_branches, two_branches_cases}
 use Rattle.cv_query_certificates.specs.Worked.{cell_cases, direct, direct_cases, one_site, two_sites, two_sites_cases}
 
 pub direct_judged : AllByRecursion (λ c. first_failure direct c.0 c.1 ≡ c.2) direct_cases
@@ -39,9 +41,17 @@ pub two_sites_judged : AllByRecursion (λ c. first_failure two_sites c.0 c.1 ≡
 unfolding first_fault size subtree same_tree first_index first_site bound_sort binders_differ counting.count context_at is_bound is_phrase is_there standing_at names_in sites_in with_given lines_of lines.count statements first_bad event_places reads_only first_definition_but first_other_site names_end plain
 two_sites_judged = (refl, tt)
 
+pub two_branches_judged : AllByRecursion (λ c. first_failure two_branches c.0 c.1 ≡ c.2) two_branches_cases
+unfolding first_fault size subtree same_tree first_index first_site bound_sort binders_differ counting.count context_at is_bound is_phrase is_there standing_at names_in sites_in with_given lines_of lines.count statements first_bad event_places reads_only first_definition_but first_other_site names_end plain
+two_branches_judged = (refl, (refl, (refl, (refl, (refl, (refl, (refl, (refl, (refl, (refl, (refl, (refl, tt))))))))))))
+
+pub one_above_judged : AllByRecursion (λ c. first_failure one_above c.0 c.1 ≡ c.2) one_above_cases
+unfolding first_fault size subtree same_tree first_index first_site bound_sort binders_differ counting.count context_at is_bound is_phrase is_there standing_at names_in sites_in with_given lines_of lines.count statements first_bad event_places reads_only first_definition_but first_other_site names_end plain
+one_above_judged = (refl, (refl, (refl, (refl, tt))))
+
 pub secrets_judged : AllByRecursion Fails secret_cases
-unfolding size subtree is_bound has_some_new queries_in first_other_read first_definition_but sources
-secrets_judged = ((refl, refl), ((refl, refl), ((refl, refl), ((refl, refl), ((refl, refl), ((refl, refl), ((refl, refl), ((refl, refl), ((refl, refl), ((refl, refl), tt))))))))))
+unfolding first_fault size subtree same_tree first_index first_site bound_sort binders_differ counting.count context_at is_bound is_phrase is_there standing_at names_in sites_in with_given lines_of lines.count statements first_bad reads_only has_some_new queries_in first_other_read first_definition_but sources copies_in names_end plain
+secrets_judged = ((refl, refl), ((refl, refl), ((refl, refl), ((refl, refl), ((refl, refl), ((refl, refl), ((refl, refl), ((refl, refl), ((refl, refl), ((refl, refl), ((refl, refl), ((refl, refl), ((refl, refl), ((refl, refl), ((refl, refl), ((refl, refl), ((refl, refl), tt)))))))))))))))))
 
 -- where the variable copies another one, each of the second form's conditions holds
 pub copies_unread : AreUnreadCopies copied 4

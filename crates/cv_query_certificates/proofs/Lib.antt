@@ -1,4 +1,5 @@
 pub mod Alternatives
 mod Pairing
+mod SecretPairing
 mod Deciding
 mod Judged

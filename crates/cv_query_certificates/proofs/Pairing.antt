@@ -1,6 +1,6 @@
 -- Where no pair is wrong, and no variable unfit to be taken to differ, the parts behind the entries are as they are to be, and the other
 -- way round.
-use Rattle.std.proofs.Common.{◌≡◌, ℕ, Bool, true, false, List, [], ◌∷◌, Option, Some, None, refl, sym, ap, ◌∙◌}
+use Rattle.std.proofs.Common.{◌≡◌, ℕ, Bool, true, false, List, [], ◌∷◌, Option, Some, None, refl, ap, ◌∙◌}
 use Rattle.std.specs.Prelude.{if◌then◌else◌, is_some}
 use Rattle.std.proofs.lemmas.Bool.{both_ways}
 use Rattle.cv_lists.specs.Options.{first_of}
@@ -23,11 +23,11 @@ unless_named : (b : Bool) (p : ℕ) → (if b then Some p else None) ≡ None �
 unless_named true p e = absurd (some_none p e)
 unless_named false p e = refl
 
-both_if : (a b : Bool) (p q : ℕ) → (if a then (if b then None else Some p) else Some q) ≡ None → (a ≡ true) × (b ≡ true)
+pub both_if : (a b : Bool) (p q : ℕ) → (if a then (if b then None else Some p) else Some q) ≡ None → (a ≡ true) × (b ≡ true)
 both_if true b p q e = (refl, if_some b p e)
 both_if false b p q e = absurd (some_none q e)
 
-both_hold : (a b : Bool) (p q : ℕ) → a ≡ true → b ≡ true → (if a then (if b then None else Some p) else Some q) ≡ None
+pub both_hold : (a b : Bool) (p q : ℕ) → a ≡ true → b ≡ true → (if a then (if b then None else Some p) else Some q) ≡ None
 both_hold true true p q e f = refl
 both_hold true false p q e f = absurd (both_ways false refl f)
 both_hold false b p q e f = absurd (both_ways false refl e)

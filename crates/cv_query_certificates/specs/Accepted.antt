@@ -1,24 +1,24 @@
 -- Accepted certificates. Of a correspondence: each left event has an entry, in the order of places. Either its node is
--- never reached, or each right event was executed before, since its node stands above, or above the only definition of a variable
--- that is assigned. With `inj`, two left events whose routes may end at one right event are told apart, or are one, by a derivation at
--- both places. Of secrecy: the game itself has the form, and no pair is given. Blanchet, CSF 2007, for correspondences, and
+-- never reached, or each right event of an alternative was executed before, since its node stands above, or above the only definition of a
+-- variable that is assigned. With `inj`, two left events whose routes for one atom may end at one right event are told apart, or are one,
+-- by a derivation at both places. Of secrecy: the game itself has the form; for many sessions two copies of one value are told apart, or are one, by a
+-- derivation at both. Blanchet, CSF 2007, for correspondences, and
 -- TDSC 2008, for secrecy; certificates are this profile's own.
-use Rattle.std.specs.Prelude.{◌≡◌, ℕ, Bool, true, false, List, [], ◌∷◌}
+use Rattle.std.specs.Prelude.{◌≡◌, ℕ, Bool, true, false, List, [], ◌∷◌, Option, None, Some}
 use Rattle.std.specs.List.{AllByRecursion}
 use Rattle.cv_syntax_trees.specs.declared.head.Head.TheVariants.{EventsCertificate, Query, Secret, SecretCertificate, SecretOnce}
-use Rattle.cv_syntax_trees.specs.Children.{is_empty}
 use Rattle.cv_syntax_trees.specs.Tree.{Tree, Empty, Node}
 use Rattle.cv_meaning.specs.Correspondences.{Correspondence, correspondence_of}
 use Rattle.cv_scene.specs.Derivations.{Derives}
 use Rattle.cv_scene.specs.Scenes.{Scene}
 use Rattle.cv_scene.specs.Sights.{sight_at}
-use Rattle.cv_query_certificates.specs.Alternatives.{has_list}
 use Rattle.cv_query_certificates.specs.Claims.{Claim, entry_claims}
 use Rattle.cv_query_certificates.specs.Forms.{has_form, left_places}
 use Rattle.cv_query_certificates.specs.Marks.{raise_of}
 use Rattle.cv_query_certificates.specs.PairParts.{AreDistinct, ArePairs, behind_entries, distinct_in, pairs_in}
 use Rattle.cv_query_certificates.specs.Pairs.{needed_pairs}
-use Rattle.cv_query_certificates.specs.Secrets.{IsSecret}
+use Rattle.cv_query_certificates.specs.SecretPairs.{AreSecretPairs}
+use Rattle.cv_query_certificates.specs.Secrets.{AreUnreadChoices, AreUnreadCopies, IsSecret, first_offence_of_choices}
 
 -- the derivation is right at the place, and ends with the targets
 abbrev pub Proves : Scene → (place : ℕ) → Claim → Type 0
@@ -49,30 +49,31 @@ abbrev pub IsEventsProof : Scene → Correspondence → (certificate : Tree) →
 IsEventsProof s q (Node EventsCertificate parts e) = AreParts s q (left_places s q) parts
 IsEventsProof s q certificate = ⊥
 
--- of secrecy, in one session or in many
+-- Of secrecy in one session: in either form. In many: in the first form, without pairs; where it doesn't hold, in the second one, with the
+-- pairs that are needed.
+
+abbrev pub IsSecretOfMany : Scene → (x : ℕ) → (choices : Option ℕ) → (pairs : Tree) → Type 0
+IsSecretOfMany s x None pairs = AreUnreadChoices s.game x × (pairs ≡ Empty)
+IsSecretOfMany s x (Some p) pairs = AreUnreadCopies s x × AreSecretPairs s x pairs
+
 abbrev pub IsSecretProof : (once : Bool) → Scene → (x : ℕ) → (certificate : Tree) → Type 0
-IsSecretProof once s x (Node SecretCertificate Empty e) = IsSecret once s x
+IsSecretProof true s x (Node SecretCertificate Empty e) = IsSecret s x
+IsSecretProof false s x (Node SecretCertificate pairs e) = IsSecretOfMany s x (first_offence_of_choices s.game x) pairs
 IsSecretProof once s x certificate = ⊥
 
+-- the tree is a query: a correspondence, or one of secrecy
+abbrev pub is_query : Tree → Bool
+is_query (Node Query binders sides) = true
+is_query (Node (Secret x) a b) = true
+is_query (Node (SecretOnce x) a b) = true
+is_query t = false
+
+-- of a tree that is no query there is no proof
 abbrev pub IsProofOf : Scene → (query certificate : Tree) → Type 0
+IsProofOf s (Node Query binders sides) certificate = IsEventsProof s (correspondence_of (Node Query binders sides)) certificate
 IsProofOf s (Node (Secret x) a b) certificate = IsSecretProof false s x certificate
 IsProofOf s (Node (SecretOnce x) a b) certificate = IsSecretProof true s x certificate
-IsProofOf s query certificate = IsEventsProof s (correspondence_of query) certificate
-
--- What has a rule by now: certificates of correspondences without alternatives, and of secrecy without pairs. Those of alternatives, and
--- pairs of secrecy, have none yet.
-
--- a certificate of secrecy gives none
-abbrev pub gives_no_pair : (certificate : Tree) → Bool
-gives_no_pair (Node SecretCertificate parts e) = is_empty parts
-gives_no_pair certificate = true
-
-abbrev pub is_built : (query certificate : Tree) → Bool
-is_built (Node Query binders sides) certificate = has_list (Node Query binders sides)
-is_built (Node (Secret x) a b) certificate = gives_no_pair certificate
-is_built (Node (SecretOnce x) a b) certificate = gives_no_pair certificate
-is_built query certificate = false
+IsProofOf s query certificate = ⊥
 
 pub record IsAccepted (s : Scene) (query certificate : Tree) : Type 0 where
-  pub built : is_built query certificate ≡ true
   pub proof : IsProofOf s query certificate

@@ -9,7 +9,7 @@ use Rattle.cv_scene.specs.lines.Given.{with_given}
 use Rattle.cv_scene.specs.lines.Targets.{falsity, target}
 use Rattle.cv_scene.specs.Scenes.{Scene}
 use Rattle.cv_scene.specs.Sights.{at_cell}
-use Rattle.cv_query_certificates.specs.Alternatives.{only_atoms}
+use Rattle.cv_query_certificates.specs.Alternatives.{chosen_atoms, routes_of}
 use Rattle.cv_query_certificates.specs.EventNodes.{arguments_at, only_site, place_in}
 
 -- one list of terms behind another
@@ -56,12 +56,13 @@ claim_of s put (RightTerm m) (Node HoldsRoute by e) = record { by = by; targets 
 claim_of s put c route = record { by = Empty; targets = falsity }
 
 -- of the routes, atom by atom
-abbrev pub claims_of : Scene → (put : Tree → Tree) → List Atom → (routes : Tree) → List Claim
-claims_of s put (c ∷ cs) (Node h route more) = claim_of s put c route ∷ claims_of s put cs more
+abbrev pub claims_of : Scene → (put : Tree → Tree) → List (ℕ × Atom) → (routes : Tree) → List Claim
+claims_of s put (c ∷ cs) (Node h route more) = claim_of s put c.1 route ∷ claims_of s put cs more
 claims_of s put cs routes = []
 
 -- of what is said of the left event's node at a place
 abbrev pub entry_claims : Scene → Correspondence → (place : ℕ) → (entry : Tree) → List Claim
 entry_claims s q p (Node AtEntry n (Node NeverEntry by e)) = record { by = by; targets = falsity } ∷ []
-entry_claims s q p (Node AtEntry n (Node WithEntry ws routes)) = claims_of s (at_place s q p ws) (only_atoms q) routes
+entry_claims s q p (Node AtEntry n (Node WithEntry ws choice)) =
+    claims_of s (at_place s q p ws) (chosen_atoms q.alternatives choice) (routes_of choice)
 entry_claims s q p entry = []

@@ -10,14 +10,14 @@ use Rattle.cv_scene.specs.lines.Ends.{ends_with}
 use Rattle.cv_scene.specs.Derivations.{first_bad_line, unless}
 use Rattle.cv_scene.specs.Scenes.{Scene}
 use Rattle.cv_scene.specs.Sights.{sight_at}
-use Rattle.cv_query_certificates.specs.Alternatives.{has_list}
 use Rattle.cv_query_certificates.specs.Claims.{Claim, entry_claims}
 use Rattle.cv_query_certificates.specs.EventNodes.{place_in}
 use Rattle.cv_query_certificates.specs.Forms.{has_form, left_places}
 use Rattle.cv_query_certificates.specs.Marks.{raise_of}
 use Rattle.cv_query_certificates.specs.PairParts.{behind_entries, distinct_in, first_unfit_name, first_wrong_pair, pairs_in}
 use Rattle.cv_query_certificates.specs.Pairs.{needed_pairs}
-use Rattle.cv_query_certificates.specs.Secrets.{first_definition, first_offence_of_choices, first_offence_of_copies, starts_by_let}
+use Rattle.cv_query_certificates.specs.SecretPairs.{first_wrong_secret, needed_secrets}
+use Rattle.cv_query_certificates.specs.Secrets.{first_offence_of_choices, first_offence_of_copies, starts_by_let}
 
 pub record Failure : Type 0 where
   pub condition : ℕ
@@ -77,33 +77,27 @@ abbrev pub certificate_failure : Scene → Correspondence → (certificate : Tre
 certificate_failure s q (Node EventsCertificate parts e) = parts_failure s q (left_places s q) parts
 certificate_failure s q certificate = certificate_refused s q
 
--- of a correspondence whose right side isn't a list none is accepted
-abbrev pub correspondence_failure : Scene → (query certificate : Tree) → Option Failure
-correspondence_failure s query certificate =
-    if has_list query then certificate_failure s (correspondence_of query) certificate else certificate_refused s (correspondence_of query)
+-- Of secrecy, by the first offences against the two forms. Pairs are needed for many sessions alone, where the second form holds and the
+-- first doesn't. Where neither holds, the first offence is against the form that the first definition has.
 
--- Of secrecy, by the first offences against the two forms. Where the first form holds nothing fails. Where the second one alone does,
--- no pair is needed for one session; for many sessions that of the first definition with itself is, and none is given. Where neither
--- holds, the first offence is against the form that the first definition has.
-
--- a place, or 0
-abbrev pub place_or_start : Option ℕ → ℕ
-place_or_start None = 0
-place_or_start (Some p) = p
-
-abbrev pub forms_failure : (once : Bool) → (game : Tree) → (x : ℕ) → (choices copies : Option ℕ) → Option Failure
-forms_failure once game x None q = None
-forms_failure once game x (Some p) None = if once then None else failed 5 (place_or_start (first_definition game x))
-forms_failure once game x (Some p) (Some q) = failed 7 (if starts_by_let game x then q else p)
-
--- no pair is needed by what has a rule: the place of the first that is given
+-- where no pair is needed: the place of the first that is given
 abbrev pub first_surplus : (pairs : Tree) → Option ℕ
 first_surplus Empty = None
 first_surplus (Node h part more) = Some (place_in (first part))
 
+abbrev pub pairs_fault : (once : Bool) → Scene → (x : ℕ) → (choices copies : Option ℕ) → (pairs : Tree) → Option ℕ
+pairs_fault false s x (Some p) None pairs = first_wrong_secret s (raise_of s pairs) (needed_secrets s (raise_of s pairs) x) pairs
+pairs_fault once s x p q pairs = first_surplus pairs
+
+abbrev pub forms_failure : (game : Tree) → (x : ℕ) → (choices copies : Option ℕ) → Option Failure
+forms_failure game x (Some p) (Some q) = failed 7 (if starts_by_let game x then q else p)
+forms_failure game x p q = None
+
+abbrev pub failure_by : (once : Bool) → Scene → (x : ℕ) → (choices copies : Option ℕ) → (pairs : Tree) → Option Failure
+failure_by once s x p q pairs = first_of (failure 5 (pairs_fault once s x p q pairs)) (forms_failure s.game x p q)
+
 abbrev pub pairs_failure : (once : Bool) → Scene → (x : ℕ) → (pairs : Tree) → Option Failure
-pairs_failure once s x pairs =
-    first_of (failure 5 (first_surplus pairs)) (forms_failure once s.game x (first_offence_of_choices s.game x) (first_offence_of_copies s x))
+pairs_failure once s x pairs = failure_by once s x (first_offence_of_choices s.game x) (first_offence_of_copies s x) pairs
 
 abbrev pub secret_failure : (once : Bool) → Scene → (x : ℕ) → (certificate : Tree) → Option Failure
 secret_failure once s x (Node SecretCertificate pairs e) = pairs_failure once s x pairs
@@ -112,9 +106,9 @@ secret_failure once s x certificate = failed 2 0
 abbrev pub query_failure : Scene → (query certificate : Tree) → Option Failure
 query_failure s (Node (Secret x) a b) certificate = secret_failure false s x certificate
 query_failure s (Node (SecretOnce x) a b) certificate = secret_failure true s x certificate
-query_failure s query certificate = correspondence_failure s query certificate
+query_failure s query certificate = certificate_failure s (correspondence_of query) certificate
 
--- of a certificate that has a rule
+-- of a certificate of a query
 abbrev pub first_failure : Scene → (query : Option Tree) → (certificate : Tree) → Option Failure
 first_failure s None certificate = failed 1 0
 first_failure s (Some query) certificate = query_failure s query certificate

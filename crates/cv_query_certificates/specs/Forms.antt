@@ -1,5 +1,5 @@
 -- The form of a certificate: what a query and a game ask of it before its derivations are read. This profile's own.
-use Rattle.std.specs.Prelude.{ℕ, Bool, true, false, ◌&&◌, ◌==◌, List, [], ◌∷◌, Option, None, Some}
+use Rattle.std.specs.Prelude.{ℕ, Bool, true, false, ◌&&◌, ◌==◌, List, [], ◌∷◌, Option, None, Some, is_some}
 use Rattle.cv_syntax_trees.specs.declared.head.Head.TheVariants.{AboveRoute, AtEntry, CellRoute, HoldsRoute, NeverEntry, Number, WithEntry}
 use Rattle.cv_syntax_trees.specs.Tree.{Tree, Empty, Node}
 use Rattle.cv_directory_sorts.specs.declared.sort.Sort.TheVariants.{OfType}
@@ -7,7 +7,7 @@ use Rattle.cv_meaning.specs.Correspondences.{Atom, Correspondence, RightEvent, R
 use Rattle.cv_scope_rules.specs.Context.{Context}
 use Rattle.cv_scene.specs.Scenes.{Scene}
 use Rattle.cv_scene.specs.Sights.{Sight, is_cell_at, is_term_of, sight_at}
-use Rattle.cv_query_certificates.specs.Alternatives.{only_atoms}
+use Rattle.cv_query_certificates.specs.Alternatives.{chosen, chosen_atoms, routes_of}
 use Rattle.cv_query_certificates.specs.EventNodes.{are_for, arguments_at, event_places, is_event_above, only_site, place_in}
 
 -- the places of the left event, in preorder
@@ -38,16 +38,19 @@ has_route_form s p (RightTerm m) (Node HoldsRoute by e) = true
 has_route_form s p c route = false
 
 -- a route for each right event and term, in order
-abbrev pub have_route_forms : Scene → (place : ℕ) → List Atom → (routes : Tree) → Bool
+abbrev pub have_route_forms : Scene → (place : ℕ) → List (ℕ × Atom) → (routes : Tree) → Bool
 have_route_forms s p [] Empty = true
-have_route_forms s p (c ∷ cs) (Node h route more) = has_route_form s p c route && have_route_forms s p cs more
+have_route_forms s p (c ∷ cs) (Node h route more) = has_route_form s p c.1 route && have_route_forms s p cs more
 have_route_forms s p cs routes = false
+
+-- an alternative is chosen, and each of its atoms has a route
+abbrev pub has_choice : Scene → Correspondence → (place : ℕ) → (choice : Tree) → Bool
+has_choice s q p choice =
+    is_some (chosen q.alternatives choice) && have_route_forms s p (chosen_atoms q.alternatives choice) (routes_of choice)
 
 -- an entry for the left event's node at a place
 abbrev pub has_form : Scene → Correspondence → (place : ℕ) → (entry : Tree) → Bool
 has_form s q p (Node AtEntry n (Node NeverEntry by e)) = is_number p n
-has_form s q p (Node AtEntry n (Node WithEntry ws routes)) =
-    is_number p n
-    && (are_for q.variables (arguments_at s.game p)
-    && (have_types (sight_at s p) q.others ws && have_route_forms s p (only_atoms q) routes))
+has_form s q p (Node AtEntry n (Node WithEntry ws choice)) =
+    is_number p n && (are_for q.variables (arguments_at s.game p) && (have_types (sight_at s p) q.others ws && has_choice s q p choice))
 has_form s q p entry = false

@@ -1,5 +1,5 @@
-pub mod Alternatives
 pub mod EventNodes
+pub mod Alternatives
 pub mod Claims
 pub mod Forms
 pub mod Secrets
@@ -10,4 +10,5 @@ pub mod SecretPairs
 pub mod Accepted
 pub mod Failures
 pub mod Worked
+pub mod WorkedAlternatives
 pub mod WorkedSecrets

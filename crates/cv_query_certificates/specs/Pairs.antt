@@ -1,7 +1,7 @@
 -- Of an injective correspondence, the pairs of routes that could end at one execution of a right event. A certificate has to tell the two
 -- left events of each apart, or to show that they are one. Blanchet, CSF 2007, for injective correspondences; pairs, their order and
 -- their ends are this profile's own.
-use Rattle.std.specs.Prelude.{ℕ, suc, Bool, true, false, ◌==◌, nat_lt, if◌then◌else◌, List, [], ◌∷◌, ◌++◌, map, flat_map, take, length, Option, Some, None}
+use Rattle.std.specs.Prelude.{ℕ, Bool, false, ◌&&◌, ◌==◌, nat_lt, if◌then◌else◌, List, [], ◌∷◌, ◌++◌, map, flat_map, take, length, Option, Some, None}
 use Rattle.cv_syntax_trees.specs.declared.head.Head.{Head}
 use Rattle.cv_syntax_trees.specs.declared.head.Head.TheVariants.{AboveRoute, AtEntry, CellRoute, Cons, Eq, Find, If, WithEntry}
 use Rattle.cv_syntax_trees.specs.Tree.{Tree, Empty, Node, first, first_place, second_place}
@@ -12,7 +12,7 @@ use Rattle.cv_scene.specs.Late.{index_term}
 use Rattle.cv_scene.specs.Pairs.{of_second, second_indices}
 use Rattle.cv_scene.specs.Scenes.{Scene}
 use Rattle.cv_scene.specs.Terms.{replications_at}
-use Rattle.cv_query_certificates.specs.Alternatives.{only_atoms}
+use Rattle.cv_query_certificates.specs.Alternatives.{chosen_atoms, routes_of}
 use Rattle.cv_query_certificates.specs.EventNodes.{place_in}
 
 -- where a route ends: at an event's node, at these indices of the replications above it
@@ -42,36 +42,47 @@ abbrev pub is_injective : Atom → Bool
 is_injective (RightEvent inj f ms) = inj
 is_injective (RightTerm m) = false
 
--- the second copy's terms have its own indices, raised by k
-abbrev pub needed_at : Scene → (k p q atom : ℕ) → (end other : Option End) → List Needed
-needed_at s k p q c (Some e) (Some f) =
-    if e.node == f.node
-    then record { first = p; second = q; atom = c; given = equations_between e.indices (map (of_second k (replications_at s q)) f.indices) } ∷ []
+-- where the routes for the events that are marked `inj` end, each with its atom's number, in order
+
+abbrev pub numbered_end : (atom : ℕ) → Option End → List (ℕ × End)
+numbered_end n None = []
+numbered_end n (Some e) = (n, e) ∷ []
+
+abbrev pub injective_ends : Scene → List (ℕ × Atom) → (routes : Tree) → List (ℕ × End)
+injective_ends s (c ∷ cs) (Node h r rs) = (if is_injective c.1 then numbered_end c.0 (end_of s r) else []) ++ injective_ends s cs rs
+injective_ends s cs routes = []
+
+-- of the alternative that is chosen
+abbrev pub ends_of_choice : Scene → Correspondence → (choice : Tree) → List (ℕ × End)
+ends_of_choice s q choice = injective_ends s (chosen_atoms q.alternatives choice) (routes_of choice)
+
+-- the left event's places that have routes, with these ends, in the order of places
+abbrev pub ends_in : Scene → Correspondence → (parts : Tree) → List (ℕ × List (ℕ × End))
+ends_in s q (Node h (Node AtEntry n (Node WithEntry ws choice)) more) = (place_in n, ends_of_choice s q choice) ∷ ends_in s q more
+ends_in s q (Node h part more) = ends_in s q more
+ends_in s q Empty = []
+
+-- both routes are for one atom and end at one node; the second copy's terms have its own indices, raised by k
+abbrev pub needed_at : Scene → (k p q : ℕ) → (end other : ℕ × End) → List Needed
+needed_at s k p q e f =
+    if e.0 == f.0 && e.1.node == f.1.node
+    then record { first = p; second = q; atom = e.0; given = equations_between e.1.indices (map (of_second k (replications_at s q)) f.1.indices) } ∷ []
     else []
-needed_at s k p q c e f = []
 
--- for each atom that is marked `inj`, in order
-abbrev pub needed_for : Scene → (k p q atom : ℕ) → List Atom → (routes others : Tree) → List Needed
-needed_for s k p q c (x ∷ xs) (Node h r rs) (Node g t ts) =
-    (if is_injective x then needed_at s k p q c (end_of s r) (end_of s t) else []) ++ needed_for s k p q (suc c) xs rs ts
-needed_for s k p q c xs rs ts = []
+-- for each event that both alternatives have, in the order of the first one's
+abbrev pub needed_for : Scene → (k p q : ℕ) → (ends others : List (ℕ × End)) → List Needed
+needed_for s k p q es fs = flat_map (λ (e : ℕ × End). flat_map (needed_at s k p q e) fs) es
 
--- the left event's places that have routes, with them, in the order of places
-abbrev pub routes_in : (parts : Tree) → List (ℕ × Tree)
-routes_in (Node h (Node AtEntry n (Node WithEntry ws routes)) more) = (place_in n, routes) ∷ routes_in more
-routes_in (Node h part more) = routes_in more
-routes_in Empty = []
+abbrev pub needed_from : Scene → (k : ℕ) → ℕ × List (ℕ × End) → List (ℕ × List (ℕ × End)) → List Needed
+needed_from s k x xs = flat_map (λ (y : ℕ × List (ℕ × End)). needed_for s k x.0 y.0 x.1 y.1) xs
 
-abbrev pub needed_from : Scene → (k : ℕ) → List Atom → ℕ × Tree → List (ℕ × Tree) → List Needed
-needed_from s k atoms e es = flat_map (λ (f : ℕ × Tree). needed_for s k e.0 f.0 1 atoms e.1 f.1) es
-
-abbrev pub needed_among : Scene → (k : ℕ) → List Atom → List (ℕ × Tree) → List Needed
-needed_among s k atoms [] = []
-needed_among s k atoms (e ∷ es) = needed_from s k atoms e (e ∷ es) ++ needed_among s k atoms es
+abbrev pub needed_among : Scene → (k : ℕ) → List (ℕ × List (ℕ × End)) → List Needed
+needed_among s k [] = []
+needed_among s k (x ∷ xs) = needed_from s k x (x ∷ xs) ++ needed_among s k xs
 
 -- by the first place, then the second, then the atom; none without `inj` on the left
 abbrev pub needed_pairs : Scene → (k : ℕ) → Correspondence → (parts : Tree) → List Needed
-needed_pairs s k q parts = if q.inj then needed_among s k (only_atoms q) (routes_in parts) else []
+needed_pairs s k q parts = if q.inj then needed_among s k (ends_in s q parts) else []
 
 -- Where two places part, the first of which stands before the second: at an `if` or a `find`, if they stand in two bodies of it, and it
 -- is the lowest construct above both.

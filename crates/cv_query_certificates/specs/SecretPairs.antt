@@ -1,11 +1,12 @@
 -- Of a variable whose definitions copy values of others, the pairs of definitions that a certificate of secrecy for many sessions has to
 -- tell apart: two copies of one value are one copy, or there are no two such. Blanchet, TDSC 2008, for secrecy of many sessions; pairs
 -- are this profile's own.
-use Rattle.std.specs.Prelude.{◌≡◌, ℕ, Bool, true, ◌&&◌, ◌==◌, not, if◌then◌else◌, List, [], ◌∷◌, ◌++◌, map, flat_map, is_some}
+use Rattle.std.specs.Prelude.{◌≡◌, ℕ, Bool, true, ◌&&◌, ◌==◌, not, if◌then◌else◌, List, [], ◌∷◌, ◌++◌, map, flat_map, Option, None, Some, is_some}
 use Rattle.std.specs.List.{list_any}
+use Rattle.cv_lists.specs.Options.{first_of}
 use Rattle.cv_syntax_trees.specs.declared.head.Head.{Head}
 use Rattle.cv_syntax_trees.specs.declared.head.Head.TheVariants.{Leaf, Let, Read, SecretPair}
-use Rattle.cv_syntax_trees.specs.Tree.{Tree, Empty, Node, first_place, second_place}
+use Rattle.cv_syntax_trees.specs.Tree.{Tree, Empty, Node, first, first_place, second_place}
 use Rattle.cv_scope_rules.specs.Context.{items}
 use Rattle.cv_scene.specs.lines.Ends.{ends_with}
 use Rattle.cv_scene.specs.lines.Truths.{no}
@@ -16,7 +17,7 @@ use Rattle.cv_scene.specs.Scenes.{Scene}
 use Rattle.cv_scene.specs.Terms.{replications_at}
 use Rattle.cv_query_certificates.specs.EventNodes.{place_in}
 use Rattle.cv_query_certificates.specs.Marks.{plain, raise_of}
-use Rattle.cv_query_certificates.specs.PairParts.{saying}
+use Rattle.cv_query_certificates.specs.PairParts.{least, saying}
 use Rattle.cv_query_certificates.specs.Pairs.{equations_between}
 
 -- a `let` at a place that copies a cell of a variable, with the cell's index terms
@@ -77,6 +78,19 @@ proves_secret s k n by =
 -- a part that is this pair
 abbrev pub is_secret_pair : NeededSecret → (p q : Tree) → Bool
 is_secret_pair n p q = place_in p == n.first && place_in q == n.second
+
+-- the place of a part that is to be this pair, where it isn't: of two pairs the lesser one counts, and it has the lesser first place
+abbrev pub secret_pair_fault : Scene → (k : ℕ) → NeededSecret → (part : Tree) → Option ℕ
+secret_pair_fault s k n (Node SecretPair p (Node h q by)) =
+    if is_secret_pair n p q then (if proves_secret s k n (plain k by) then None else Some n.first) else Some (least n.first (place_in p))
+secret_pair_fault s k n part = Some n.first
+
+-- the place of the first pair that isn't the needed one or isn't right, of one that is missing, or of one too many
+abbrev pub first_wrong_secret : Scene → (k : ℕ) → List NeededSecret → (parts : Tree) → Option ℕ
+first_wrong_secret s k [] Empty = None
+first_wrong_secret s k [] (Node h part more) = Some (place_in (first part))
+first_wrong_secret s k (n ∷ ns) Empty = Some n.first
+first_wrong_secret s k (n ∷ ns) (Node h part more) = first_of (secret_pair_fault s k n part) (first_wrong_secret s k ns more)
 
 -- each pair that is needed has its part, in order, and nothing else stands there
 

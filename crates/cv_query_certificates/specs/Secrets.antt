@@ -127,7 +127,6 @@ pub record AreUnreadCopies (s : Scene) (x : ℕ) : Type 0 where
   pub copies : first_definition_but (is_copy s) x 0 s.game ≡ None
   pub unread : first_other_read x (x ∷ copied_variables s.game x) false Anywhere 0 s.game ≡ None
 
--- Of one session the variable is secret in either form; of many sessions this is known in the first form alone.
-abbrev pub IsSecret : (once : Bool) → Scene → (x : ℕ) → Type 0
-IsSecret true s x = AreUnreadChoices s.game x ⊎ AreUnreadCopies s x
-IsSecret false s x = AreUnreadChoices s.game x
+-- of one session the variable is secret in either form
+abbrev pub IsSecret : Scene → (x : ℕ) → Type 0
+IsSecret s x = AreUnreadChoices s.game x ⊎ AreUnreadCopies s x

@@ -1,5 +1,5 @@
 -- Certificates with the first condition of each that fails. Names are numbers: 0 is `bool`, 5 a type, 2 a parameter; 1, 7 and 14 are
--- indices; 3, 6, 8 and 15 are channels, 11 and 12 events, 4, 9 and 10 variables, and 21 and 22 variables of a query.
+-- indices; 3, 6, 8 and 15 are channels, 11 to 13 events, 4, 9 and 10 variables, and 21 and 22 variables of a query.
 use Rattle.std.specs.Prelude.{ℕ, true, false, nat_lt, List, [], ◌∷◌, Option, Some, None}
 use Rattle.cv_syntax_trees.specs.declared.class.Class.TheVariants as class
 use Rattle.cv_syntax_trees.specs.declared.head.Head.TheVariants as head
@@ -17,6 +17,7 @@ declarations =
     ∷ Named 2 class.Param Empty None
     ∷ Named 11 class.Event (names (5 ∷ [])) None
     ∷ Named 12 class.Event (names (5 ∷ [])) None
+    ∷ Named 13 class.Event (names (5 ∷ [])) None
     ∷ []
 
 abbrev pub scene_of : Tree → Scene

@@ -1,13 +1,13 @@
 -- Certificates of secrecy with the first condition of each that fails. The names are those of the other worked certificates: 4 is the
 -- variable that a query asks for, and 9 and 10 are others.
 use Rattle.std.specs.Prelude.{ℕ, true, List, [], ◌∷◌, ◌++◌, ◌≡◌, Option, Some, None}
-use Rattle.cv_syntax_trees.specs.declared.head.Head.TheVariants.{EventsCertificate, Let, New, Par, Repl, Secret, SecretCertificate, SecretOnce, SecretPair, Stop, Yes, Yield}
+use Rattle.cv_syntax_trees.specs.declared.head.Head.TheVariants.{BySame, Cons, EventsCertificate, Let, New, Par, Primed, Repl, Secret, SecretCertificate, SecretOnce, SecretPair, Stop, Yes, Yield}
 use Rattle.cv_syntax_trees.specs.Builders.{branch, find, input, leaf, output, read}
 use Rattle.cv_syntax_trees.specs.Declarations.{Query}
 use Rattle.cv_syntax_trees.specs.Tree.{Tree, Empty, Node, chain, lone}
 use Rattle.cv_scene.specs.Scenes.{Scene}
 use Rattle.cv_query_certificates.specs.Failures.{Failure, first_failure}
-use Rattle.cv_query_certificates.specs.Worked.{declarations, eq, fails, scene_of}
+use Rattle.cv_query_certificates.specs.Worked.{declarations, eq, fails, line, number, scene_of}
 
 abbrev pub secret : ℕ → Tree
 secret x = lone (Secret x)
@@ -18,8 +18,15 @@ secret_once x = lone (SecretOnce x)
 abbrev pub by_form : Tree
 by_form = lone SecretCertificate
 
-abbrev pub by_pair : Tree
-by_pair = Node SecretCertificate (chain (lone SecretPair ∷ [])) Empty
+abbrev pub pair_by : (p q : ℕ) → (lines : List Tree) → Tree
+pair_by p q lines = Node SecretPair (number p) (Node Cons (number q) (chain lines))
+
+-- a pair at one place: 1 = 1' by same 1
+abbrev pub one_session : (place : ℕ) → Tree
+one_session p = pair_by p p (line (eq (leaf 1) (lone (Primed 1))) (Node BySame (number 1) Empty) ∷ [])
+
+abbrev pub by_pairs : List Tree → Tree
+by_pairs parts = Node SecretCertificate (chain parts) Empty
 
 abbrev pub by_events : Tree
 by_events = lone EventsCertificate
@@ -102,6 +109,13 @@ secret_cases =
     ∷ (published, by_form, fails 7 3, fails 7 3)
     ∷ (published, by_events, fails 2 0, fails 2 0)
     ∷ (copied, by_form, fails 5 5, None)
+    ∷ (copied, by_pairs (one_session 5 ∷ []), None, fails 5 5)
+    ∷ (copied, by_pairs (lone SecretPair ∷ []), fails 5 5, fails 5 0)
+    ∷ (copied, by_pairs (pair_by 5 5 [] ∷ []), fails 5 5, fails 5 5)
+    ∷ (copied, by_pairs (one_session 4 ∷ []), fails 5 4, fails 5 4)
+    ∷ (copied, by_pairs (one_session 5 ∷ one_session 9 ∷ []), fails 5 9, fails 5 5)
+    ∷ (chosen, by_pairs (one_session 5 ∷ []), fails 5 5, fails 5 5)
+    ∷ (published, by_pairs (one_session 5 ∷ []), fails 5 5, fails 5 5)
     ∷ (copied_on, by_form, fails 7 7, fails 7 7)
     ∷ (source_sent, by_form, fails 7 7, fails 7 7)
     ∷ (constant_sent, by_form, fails 7 5, fails 7 5)

@@ -5,15 +5,15 @@ ghost use Rattle.std.specs.Prelude.{◌≡◌, ◌↔◌, ◌∷◌, [], true, f
 ghost use Rattle.std.specs.List.{AllByRecursion};
 ghost use Rattle.cv_syntax_trees.specs.Tree.{Tree};
 ghost use Rattle.cv_scene.specs.Scenes.{Scene};
-ghost use Rattle.cv_query_certificates.specs.Accepted.{IsAccepted, is_built};
+ghost use Rattle.cv_query_certificates.specs.Accepted.{IsAccepted, is_query};
 ghost use Rattle.cv_query_certificates.specs.Failures.{first_failure};
 ghost use Rattle.cv_query_certificates.specs.Worked.{begun, begun_once, cell_cases, cell_entry, direct, direct_cases, direct_entry, events, is_true, never, one_site, pair, two_sites, two_sites_cases};
-ghost use Rattle.cv_query_certificates.specs.Secrets.{IsSecret};
-ghost use Rattle.cv_query_certificates.specs.WorkedSecrets.{Fails, by_form, by_pair, chosen, compared, copied, secret, secret_cases, secret_once};
+ghost use Rattle.cv_query_certificates.specs.WorkedAlternatives.{either_begun, of_each, one_above, one_above_cases, two_branches, two_branches_cases};
+ghost use Rattle.cv_query_certificates.specs.WorkedSecrets.{Fails, by_form, by_pairs, chosen, compared, copied, one_session, secret, secret_cases, secret_once};
 
-/// A certificate that has a rule is accepted exactly where no condition of it fails.
+/// A certificate of a query is accepted exactly where no condition of it fails.
 pub fn accepted_exactly_where_nothing_fails()
-    ensures { (s : Scene) (query certificate : Tree) → is_built query certificate ≡ true →
+    ensures { (s : Scene) (query certificate : Tree) → is_query query ≡ true →
         (IsAccepted s query certificate ↔ (first_failure s (Some query) certificate ≡ None)) }
 {}
 
@@ -34,16 +34,30 @@ pub fn worked_certificates()
     accepted_exactly_where_nothing_fails();
 }
 
+/// Which condition fails first of certificates of correspondences with alternatives. At each place one is named, which no entry
+/// does for a query that has but one; a number that isn't there and a route too many fail. With `inj`, two places need the
+/// pair of an atom that both of their alternatives have, and none for other atoms.
+pub fn worked_alternatives()
+    ensures chosen { AllByRecursion (λ c. first_failure two_branches c.0 c.1 ≡ c.2)
+        two_branches_cases }
+    ensures shared { AllByRecursion (λ c. first_failure one_above c.0 c.1 ≡ c.2) one_above_cases }
+    ensures accepted { IsAccepted two_branches (either_begun false) (events of_each) }
+    ensures unpaired { IsAccepted two_branches (either_begun true) (events of_each) → ⊥ }
+{
+    accepted_exactly_where_nothing_fails();
+}
+
 /// Which condition fails first of certificates of secrecy, for many sessions and for one. A variable that is chosen and read
 /// nowhere is accepted; a read of it fails, in a condition or in an output. One that copies another, which is read nowhere
-/// else, is accepted for one session, and for many a pair lacks; a read of the other one fails, and so does a query for it.
+/// else, is accepted for one session, and for many with the pair that is needed; a read of the other one fails, and so does a query
+/// for it. A pair that isn't needed fails.
 pub fn worked_secrets()
     ensures fails { AllByRecursion Fails secret_cases }
     ensures accepted { IsAccepted chosen (secret 4) by_form }
     ensures read { IsAccepted compared (secret 4) by_form → ⊥ }
     ensures copied { IsAccepted copied (secret 4) by_form → ⊥ }
     ensures once { IsAccepted copied (secret_once 4) by_form }
-    ensures pairs { is_built (secret 4) by_pair ≡ false }
+    ensures paired { IsAccepted copied (secret 4) (by_pairs (one_session 5 ∷ [])) }
 {
     accepted_exactly_where_nothing_fails();
 }

@@ -1,5 +1,5 @@
 -- The only definition of a variable, as a directory tells it.
-use Rattle.std.proofs.Common.{◌≡◌, ℕ, zero, suc, ◌+◌, ◌<◌, ◌≤◌, min, List, [], ◌∷◌, ◌++◌, length, map, take, Bool, Option, Some, None, refl, sym, ap, ◌∙◌, arith, eq-eqb, ne_eqb}
+use Rattle.std.proofs.Common.{◌≡◌, ℕ, zero, suc, ◌+◌, ◌<◌, min, List, [], ◌∷◌, ◌++◌, length, map, take, Bool, Option, Some, None, refl, sym, ap, ◌∙◌, arith, eq-eqb, ne_eqb}
 use Rattle.std.specs.Prelude.{◌==◌, if◌then◌else◌, option_and_then, option_map, slice_get}
 use Rattle.std.proofs.lemmas.List.{take_all}
 use Rattle.cv_syntax_trees.specs.Declarations.{Declaration}

@@ -3,13 +3,13 @@ ghost use Rattle.cv_pool.specs.Nodes.{ChildBelow};
 ghost use Rattle.cv_syntax.specs.PoolTrees.{tree_at};
 ghost use Rattle.cv_directory_sorts.specs.declared.sort.Sort.TheVariants.{OfType};
 ghost use Rattle.cv_typing.specs.Tables.{above_of};
-ghost use Rattle.cv_meaning.specs.Correspondences.{atoms_of};
 ghost use Rattle.cv_scene.specs.Sights as sights;
 ghost use Rattle.cv_scene.specs.Sights.{sight_at};
 ghost use Rattle.cv_scene.specs.Terms.{above_at};
 ghost use Rattle.cv_query_certificates.specs.EventNodes.{only_site};
 ghost use Rattle.cv_query_certificates.specs.Failures as failures;
 ghost use Rattle.cv_query_certificates.specs.Forms as forms;
+ghost use Rattle.cv_query_parts.specs.Alternatives.{AreAtomsBelow, atoms_seen};
 ghost use Rattle.cv_query_parts.specs.Said.{IsAtomBelow, IsRouteBelow, atom_seen, has_way, has_with, way_seen};
 ghost use Rattle.cv_query_parts.specs.Views.{IsAskedBelow, IsReady, asked_of, game_of, scene_of, trees_of};
 
@@ -19,7 +19,8 @@ use cv_derive_lines::Claim;
 use cv_derive_lines::terms::{is_term_of, is_typed_claim};
 use cv_directory_sorts::Sort;
 use cv_query_parts::{
-    Asked, Atom, Entry, Route, View, atom_of, entry_of, is_number, route_of, surplus_entry,
+    Asked, Atom, Entry, NumberedAtom, Route, View, atom_of, choice_of, chosen, entry_of, is_number,
+    route_of, surplus_entry,
 };
 use cv_scene_view::{indices_at, part_at};
 use cv_syntax::children::{first_of, is_empty};
@@ -120,34 +121,53 @@ fn have_route_forms(
     view: &View,
     above: &HashMap<u32, Sort>,
     place: u32,
-    atoms: Option<NodeId>,
+    atoms: &[NumberedAtom],
     routes: Option<NodeId>,
 ) -> bool
     requires ready { IsReady view.now }
     requires above { above_of above.now ≡ above_at (scene_of view.now) place }
-    requires atoms { ChildBelow (length (trees_of view.now)) atoms }
+    requires atoms { AreAtomsBelow (length (trees_of view.now)) atoms.now }
     requires routes { ChildBelow (length (trees_of view.now)) routes }
     ensures { result ≡ forms.have_route_forms (scene_of view.now) place
-        (atoms_of (tree_at (trees_of view.now) atoms)) (tree_at (trees_of view.now) routes) }
+        (atoms_seen (trees_of view.now) atoms.now) (tree_at (trees_of view.now) routes) }
 {
     let pool = &view.work.pool;
-    let mut at = atoms;
-    let mut behind = routes;
-    'atoms: while let Some(m) = at {
-        let asked = read_node(pool, m);
-        let Some(n) = behind else {
+    let mut at = routes;
+    'atoms: for k in 0..atoms.len() {
+        let Some(n) = at else {
             return false;
         };
-        let given = read_node(pool, n);
-        let atom = atom_of(pool, asked.first);
-        let route = route_of(pool, given.first);
+        let node = read_node(pool, n);
+        let atom = atom_of(pool, atoms[k].atom);
+        let route = route_of(pool, node.first);
         if !has_route_form(view, above, place, atom, route) {
             return false;
         }
-        at = asked.second;
-        behind = given.second;
+        at = node.second;
     }
-    is_empty(pool, behind)
+    is_empty(pool, at)
+}
+
+/// Whether an alternative is chosen, and there is a route of the form that is asked for each of its atoms.
+fn has_choice(
+    view: &View,
+    above: &HashMap<u32, Sort>,
+    asked: &Asked,
+    place: u32,
+    choice: Option<NodeId>,
+) -> bool
+    requires ready { IsReady view.now }
+    requires above { above_of above.now ≡ above_at (scene_of view.now) place }
+    requires asked { IsAskedBelow (length (trees_of view.now)) asked.now }
+    requires choice { ChildBelow (length (trees_of view.now)) choice }
+    ensures { result ≡ forms.has_choice (scene_of view.now)
+        (asked_of (trees_of view.now) asked.now) place (tree_at (trees_of view.now) choice) }
+{
+    let choice = choice_of(&view.work.pool, choice);
+    match chosen(asked.alternatives, choice.number) {
+        Some(atoms) => have_route_forms(view, above, place, atoms, choice.routes),
+        None => false,
+    }
 }
 
 /// Whether there is a term of its type for each of the variables.
@@ -179,22 +199,22 @@ fn have_types(
     is_empty(&view.work.pool, at)
 }
 
-/// Whether witnesses and routes have the form that a query asks at a place.
+/// Whether witnesses and a choice have the form that a query asks at a place.
 fn has_with_form(
     alloc: Global,
     view: &View,
     asked: &Asked,
     place: u32,
     witnesses: Option<NodeId>,
-    routes: Option<NodeId>,
+    choice: Option<NodeId>,
 ) -> Result<bool, AllocError>
     requires ready { IsReady view.now }
     requires asked { IsAskedBelow (length (trees_of view.now)) asked.now }
     requires witnesses { ChildBelow (length (trees_of view.now)) witnesses }
-    requires routes { ChildBelow (length (trees_of view.now)) routes }
+    requires choice { ChildBelow (length (trees_of view.now)) choice }
     ensures { IfOk result (λ has. has
         ≡ has_with (scene_of view.now) (asked_of (trees_of view.now) asked.now) place
-        (tree_at (trees_of view.now) witnesses) (tree_at (trees_of view.now) routes)) }
+        (tree_at (trees_of view.now) witnesses) (tree_at (trees_of view.now) choice)) }
 {
     let pool = &view.work.pool;
     let arguments = first_of(pool, part_at(pool, view.game, place));
@@ -205,7 +225,7 @@ fn has_with_form(
     if !have_types(view, &above, place, asked.others, witnesses) {
         return Ok(false);
     }
-    Ok(have_route_forms(view, &above, place, asked.atoms, routes))
+    Ok(has_choice(view, &above, asked, place, choice))
 }
 
 /// Whether a part has the form that a query asks of an entry for a place.
@@ -228,12 +248,12 @@ fn has_form(
         Entry::With {
             place: n,
             witnesses,
-            routes,
+            choice,
         } => {
             if !is_number(&view.work.pool, place, n) {
                 return Ok(false);
             }
-            has_with_form(alloc, view, asked, place, witnesses, routes)
+            has_with_form(alloc, view, asked, place, witnesses, choice)
         }
         Entry::Other => Ok(false),
     }

@@ -1,3 +1,4 @@
+pub mod Counts
 pub mod Distinct
 pub mod Decided
 pub mod First

@@ -3,13 +3,14 @@ use Rattle.std.proofs.Common.{◌≡◌, ℕ, zero, suc, ◌+◌, ◌<◌, ◌�
 use Rattle.std.specs.Prelude.{slice_get, option_map}
 use Rattle.std.specs.HashSet.{UpdatesBy}
 use Rattle.std.proofs.Math.Path.{fun_ext}
+use Rattle.std.proofs.lemmas.Bool.{both_ways}
 use Rattle.std.proofs.lemmas.List.Elements.{All-head, All-tail}
 use Rattle.cv_pool.specs.declared.node.NodeId.{NodeId}
 use Rattle.cv_pool.specs.KindTree.{KindTree}
 use Rattle.cv_syntax.specs.declared.decls.Decl.{Decl}
 use Rattle.cv_syntax.specs.declared.decls.Decl.TheVariants as decl
 use Rattle.cv_syntax_trees.specs.declared.head.Head.{Head}
-use Rattle.cv_syntax_trees.specs.declared.head.Head.TheVariants.{Leaf, Cons, Query, Occurs, OccursOnce, Secret, SecretOnce}
+use Rattle.cv_syntax_trees.specs.declared.head.Head.TheVariants.{Leaf, Cons, Query, Occurs, OccursOnce, Secret, SecretOnce, SomeOf}
 use Rattle.cv_syntax.specs.Declarations.{declarations}
 use Rattle.cv_syntax.specs.NameSets.{NameSet, is_in, is_one_of}
 use Rattle.cv_syntax_trees.specs.Tree.{Tree, Empty, Node}
@@ -21,9 +22,9 @@ use Rattle.cv_meaning.specs.Binders.{bound_names}
 use Rattle.cv_meaning.specs.Correspondences.{is_once}
 use Rattle.cv_directory.specs.Live.{IsLive}
 use Rattle.cv_directory_sorts.specs.Sites.{SitesView, sites_of}
-use Rattle.cv_query_form.specs.Held.{valued, cell_variable, event_passes, events_pass, correspondence_passes, secret_passes, node_passes}
+use Rattle.cv_query_form.specs.Held.{has_parts, valued, cell_variable, event_passes, events_pass, correspondence_passes, secret_passes, node_passes}
 use Rattle.cv_meaning.specs.Queries.{queries_in}
-use Rattle.cv_query_form.specs.Tests.{without, are_distinct, are_marked_alike, is_left_event, some_is_marked, passes, may_be_asked, first_refused}
+use Rattle.cv_query_form.specs.Tests.{without, are_distinct, is_left_event, sides_pass, some_is_marked, passes, may_be_asked, first_refused}
 use Rattle.cv_query_form.proofs.First.{passed, stopped}
 
 -- one step of a conjunction, and of a disjunction
@@ -115,9 +116,23 @@ event_passes_law free t h a b r e (inr k) f = f ∙ sym (event_step free t h a b
 
 -- marks
 
-pub marked_step : (t : Tree) (h : Head) (a b : Tree) → t ≡ Node h a b → some_is_marked t ≡ (is_once a || some_is_marked b)
+pub marked_step : (t : Tree) (h : Head) (a b : Tree) → t ≡ Node h a b → has_parts h ≡ true → some_is_marked t ≡ (some_is_marked a || some_is_marked b)
 unfolding some_is_marked
-marked_step t h a b e = ap some_is_marked e
+marked_step t h a b e p = ap some_is_marked e ∙ step h p
+  where
+    step : (h : Head) → has_parts h ≡ true → some_is_marked (Node h a b) ≡ (some_is_marked a || some_is_marked b)
+    step Cons p = refl
+    step SomeOf p = refl
+    step h p = absurd (both_ways _ refl p)
+
+pub marked_atom : (t : Tree) (h : Head) (a b : Tree) → t ≡ Node h a b → has_parts h ≡ false → is_once t ≡ some_is_marked t
+unfolding some_is_marked
+marked_atom t h a b e n = ap is_once e ∙ (step h a b n ∙ sym (ap some_is_marked e))
+  where
+    step : (h : Head) (a b : Tree) → has_parts h ≡ false → is_once (Node h a b) ≡ some_is_marked (Node h a b)
+    step Cons a b n = absurd (both_ways _ n refl)
+    step SomeOf a b n = absurd (both_ways _ n refl)
+    step h a b n = refl
 
 pub marked_end : (trees : List KindTree) (at : Option NodeId) → at ≡ None → some_is_marked (tree_at trees at) ≡ false
 unfolding some_is_marked
@@ -160,14 +175,14 @@ passes_secret values t h a b x r e (inr k) f = f ∙ sym (passes_step values t h
 pub events_end : (bs : Tree) (trees : List KindTree) (at : Option NodeId) → at ≡ None → false ≡ correspondence_passes bs (tree_at trees at)
 events_end bs trees at e = sym (ap (correspondence_passes bs) (empty_at trees at e))
 
-events_step : (bs t : Tree) (h : Head) (l r : Tree) (free : ℕ → Bool) → t ≡ Node h l r → h ≡ Cons → free ≡ is_one_of (bound_names bs) → correspondence_passes bs t ≡ (is_left_event free l && are_marked_alike l r)
-events_step bs t h l r free e f g = ap (correspondence_passes bs) e ∙ (ap (λ k. events_pass bs k l r) f ∙ ap (λ p. is_left_event p l && are_marked_alike l r) (sym g))
+events_step : (bs t : Tree) (h : Head) (l r : Tree) (free : ℕ → Bool) → t ≡ Node h l r → h ≡ Cons → free ≡ is_one_of (bound_names bs) → correspondence_passes bs t ≡ (is_left_event free l && sides_pass l r)
+events_step bs t h l r free e f g = ap (correspondence_passes bs) e ∙ (ap (λ k. events_pass bs k l r) f ∙ ap (λ p. is_left_event p l && sides_pass l r) (sym g))
 
 pub events_refused : (bs t : Tree) (h : Head) (l r : Tree) (free : ℕ → Bool) (found : Bool) → t ≡ Node h l r → h ≡ Cons → free ≡ is_one_of (bound_names bs) → found ≡ is_left_event free l → found ≡ false → false ≡ correspondence_passes bs t
-events_refused bs t h l r free found e f g i n = sym (events_step bs t h l r free e f g ∙ ap (λ b. b && are_marked_alike l r) (sym i ∙ n))
+events_refused bs t h l r free found e f g i n = sym (events_step bs t h l r free e f g ∙ ap (λ b. b && sides_pass l r) (sym i ∙ n))
 
-pub events_marked : (bs t : Tree) (h : Head) (l r : Tree) (free : ℕ → Bool) (found : Bool) → t ≡ Node h l r → h ≡ Cons → free ≡ is_one_of (bound_names bs) → found ≡ is_left_event free l → found ≡ true → are_marked_alike l r ≡ correspondence_passes bs t
-events_marked bs t h l r free found e f g i n = sym (events_step bs t h l r free e f g ∙ ap (λ b. b && are_marked_alike l r) (sym i ∙ n))
+pub events_accepted : (bs t : Tree) (h : Head) (l r : Tree) (free : ℕ → Bool) (found : Bool) → t ≡ Node h l r → h ≡ Cons → free ≡ is_one_of (bound_names bs) → found ≡ is_left_event free l → found ≡ true → sides_pass l r ≡ correspondence_passes bs t
+events_accepted bs t h l r free found e f g i n = sym (events_step bs t h l r free e f g ∙ ap (λ b. b && sides_pass l r) (sym i ∙ n))
 
 pub ok_same : {E : Type 0} (r : Result Bool E) (b c : Bool) → b ≡ c → IfOk r (λ found. found ≡ b) → IfOk r (λ found. found ≡ c)
 ok_same r b c e m = subst (λ d. IfOk r (λ found. found ≡ d)) e m

@@ -1,10 +1,10 @@
 -- Which queries may be asked of a game.
-use Rattle.std.specs.Prelude.{◌≡◌, ◌↔◌, ℕ, ◌+◌, true, List, [], ◌∷◌, ◌++◌, ◌⊎◌, Some, map, length}
+use Rattle.std.specs.Prelude.{◌≡◌, ◌≤◌, ◌↔◌, ℕ, ◌+◌, true, List, [], ◌∷◌, ◌++◌, ◌⊎◌, Some, map, length}
 use Rattle.std.specs.List.{AllByRecursion}
-use Rattle.cv_syntax_trees.specs.declared.head.Head.TheVariants.{Leaf, Cons, Query, Occurs, OccursOnce, Secret, SecretOnce}
+use Rattle.cv_syntax_trees.specs.declared.head.Head.TheVariants.{Leaf, Cons, Query, Occurs, OccursOnce, Secret, SecretOnce, SomeOf}
 use Rattle.cv_syntax_trees.specs.Tree.{Tree, Empty, Node, lone, chain}
 use Rattle.cv_meaning.specs.Binders.{bound_names}
-use Rattle.cv_meaning.specs.Correspondences.{is_once}
+use Rattle.cv_meaning.specs.Correspondences.{alternatives_of, is_once}
 use Rattle.cv_directory_sorts.specs.declared.sort.Sort.TheVariants.{OfType}
 use Rattle.cv_directory_sorts.specs.Sites.{first_site}
 
@@ -39,12 +39,19 @@ IsLeftEvent xs _ = ⊥
 abbrev pub IsMarked : Tree → Type 0
 IsMarked t = is_once t ≡ true
 
+-- some event of a right side, wherever it stands, is marked
 unfoldable pub SomeIsMarked : Tree → Type 0
 SomeIsMarked Empty = ⊥
-SomeIsMarked (Node h atom more) = IsMarked atom ⊎ SomeIsMarked more
+SomeIsMarked (Node Cons a b) = SomeIsMarked a ⊎ SomeIsMarked b
+SomeIsMarked (Node SomeOf a b) = SomeIsMarked a ⊎ SomeIsMarked b
+SomeIsMarked atom = IsMarked atom
 
 abbrev pub AreMarkedAlike : Tree → Tree → Type 0
-AreMarkedAlike left atoms = IsMarked left ↔ SomeIsMarked atoms
+AreMarkedAlike left right = IsMarked left ↔ SomeIsMarked right
+
+-- A right side has at most 64 alternatives.
+abbrev pub HasFewAlternatives : Tree → Type 0
+HasFewAlternatives right = length (alternatives_of right) ≤ 64
 
 -- What is kept secret is a variable of the game with values of a type: it has a site, and is no index of a `find`.
 pub record HasValues (game : Tree) (x : ℕ) : Type 0 where
@@ -54,7 +61,7 @@ pub record HasValues (game : Tree) (x : ℕ) : Type 0 where
 
 -- a query may be asked
 unfoldable pub MayBeAsked : Tree → Tree → Type 0
-MayBeAsked game (Node Query bs (Node Cons left atoms)) = IsLeftEvent (bound_names bs) left × AreMarkedAlike left atoms
+MayBeAsked game (Node Query bs (Node Cons left right)) = IsLeftEvent (bound_names bs) left × AreMarkedAlike left right × HasFewAlternatives right
 MayBeAsked game (Node (Secret x) Empty Empty) = HasValues game x
 MayBeAsked game (Node (SecretOnce x) Empty Empty) = HasValues game x
 MayBeAsked game _ = ⊥

@@ -1,6 +1,6 @@
 -- The rules of queries as tests.
-use Rattle.std.specs.Prelude.{ℕ, suc, Bool, true, false, ◌&&◌, ◌||◌, not, ◌==◌, if◌then◌else◌, List, [], ◌∷◌, Option, Some, None, option_map}
-use Rattle.cv_syntax_trees.specs.declared.head.Head.TheVariants.{Leaf, Cons, Query, Occurs, OccursOnce, Secret, SecretOnce}
+use Rattle.std.specs.Prelude.{ℕ, suc, ◌+◌, ◌*◌, nat_le, Bool, true, false, ◌&&◌, ◌||◌, not, ◌==◌, if◌then◌else◌, List, [], ◌∷◌, Option, Some, None, option_map}
+use Rattle.cv_syntax_trees.specs.declared.head.Head.TheVariants.{Leaf, Cons, Query, Occurs, OccursOnce, Secret, SecretOnce, SomeOf}
 use Rattle.cv_syntax_trees.specs.Tree.{Tree, Empty, Node}
 use Rattle.cv_syntax.specs.NameSets.{is_one_of}
 use Rattle.cv_meaning.specs.Binders.{bound_names}
@@ -25,10 +25,26 @@ is_left_event free _ = false
 
 unfoldable pub some_is_marked : Tree → Bool
 some_is_marked Empty = false
-some_is_marked (Node h atom more) = is_once atom || some_is_marked more
+some_is_marked (Node Cons a b) = some_is_marked a || some_is_marked b
+some_is_marked (Node SomeOf a b) = some_is_marked a || some_is_marked b
+some_is_marked atom = is_once atom
 
 abbrev pub are_marked_alike : Tree → Tree → Bool
-are_marked_alike left atoms = if is_once left then some_is_marked atoms else not (some_is_marked atoms)
+are_marked_alike left right = if is_once left then some_is_marked right else not (some_is_marked right)
+
+-- how many alternatives a right side has
+unfoldable pub count_of : Tree → ℕ
+count_of Empty = 1
+count_of (Node Cons a b) = count_of a * count_of b
+count_of (Node SomeOf a b) = count_of a + count_of b
+count_of atom = 1
+
+abbrev pub has_few_alternatives : Tree → Bool
+has_few_alternatives right = nat_le (count_of right) 64
+
+-- the sides of a correspondence go together
+abbrev pub sides_pass : Tree → Tree → Bool
+sides_pass left right = are_marked_alike left right && has_few_alternatives right
 
 abbrev pub is_of_type : Option Sort → Bool
 is_of_type (Some (OfType T)) = true
@@ -39,7 +55,7 @@ has_values game x = is_of_type (option_map (λ (v : Variable). v.sort) (first_si
 
 -- a query passes, where these names have values
 unfoldable pub passes : (ℕ → Bool) → Tree → Bool
-passes valued (Node Query bs (Node Cons left atoms)) = is_left_event (is_one_of (bound_names bs)) left && are_marked_alike left atoms
+passes valued (Node Query bs (Node Cons left right)) = is_left_event (is_one_of (bound_names bs)) left && sides_pass left right
 passes valued (Node (Secret x) Empty Empty) = valued x
 passes valued (Node (SecretOnce x) Empty Empty) = valued x
 passes valued _ = false

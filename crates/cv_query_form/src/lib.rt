@@ -1,6 +1,7 @@
 // Which queries of a file may be asked.
 #![tactic(auto)]
 
+mod alternatives;
 mod arguments;
 mod checking;
 mod fault;
@@ -12,6 +13,6 @@ mod worked;
 
 pub use checking::check;
 pub use fault::QueryFault;
-pub use laws::queries_are_decided;
+pub use laws::{alternatives_are_counted, queries_are_decided};
 pub use secrets::has_values;
-pub use worked::{worked_correspondences, worked_secrets};
+pub use worked::{worked_alternatives, worked_correspondences, worked_secrets};

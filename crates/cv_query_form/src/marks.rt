@@ -4,6 +4,7 @@ ghost use Rattle.cv_syntax.specs.PoolTrees.{tree_at};
 ghost use Rattle.cv_meaning.specs.Correspondences.{is_once};
 ghost use Rattle.cv_query_form.specs.Tests as test;
 
+use crate::alternatives::has_parts;
 use cv_syntax::{Head, NodeId, Pool, read_node};
 
 /// Whether a tree is an event that is marked `inj`.
@@ -18,28 +19,31 @@ fn is_marked(pool: &Pool, event: Option<NodeId>) -> bool
     matches!(read_node(pool, k).head, Head::OccursOnce(_))
 }
 
-/// Whether an event of a list is marked `inj`.
-fn some_is_marked(pool: &Pool, atoms: Option<NodeId>) -> bool
-    requires { ChildBelow (length pool.now.trees) atoms }
-    ensures { result ≡ test.some_is_marked (tree_at pool.now.trees atoms) }
+/// Whether some event of a right side, wherever it stands, is marked `inj`.
+fn some_is_marked(pool: &Pool, right: Option<NodeId>) -> bool
+    requires { ChildBelow (length pool.now.trees) right }
+    ensures { result ≡ test.some_is_marked (tree_at pool.now.trees right) }
 {
-    let mut at = atoms;
-    'list: while let Some(k) = at {
-        let cell = read_node(pool, k);
-        if is_marked(pool, cell.first) {
+    let mut at = right;
+    'parts: while let Some(k) = at {
+        let node = read_node(pool, k);
+        if !has_parts(node.head) {
+            return is_marked(pool, at);
+        }
+        if some_is_marked(pool, node.first) {
             return true;
         }
-        at = cell.second;
+        at = node.second;
     }
     false
 }
 
 /// Whether `inj` stands on both sides of a correspondence, or on none.
-pub fn are_marked_alike(pool: &Pool, left: Option<NodeId>, atoms: Option<NodeId>) -> bool
+pub fn are_marked_alike(pool: &Pool, left: Option<NodeId>, right: Option<NodeId>) -> bool
     requires left { ChildBelow (length pool.now.trees) left }
-    requires atoms { ChildBelow (length pool.now.trees) atoms }
+    requires right { ChildBelow (length pool.now.trees) right }
     ensures { result ≡ test.are_marked_alike (tree_at pool.now.trees left)
-        (tree_at pool.now.trees atoms) }
+        (tree_at pool.now.trees right) }
 {
-    is_marked(pool, left) == some_is_marked(pool, atoms)
+    is_marked(pool, left) == some_is_marked(pool, right)
 }

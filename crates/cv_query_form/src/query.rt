@@ -3,8 +3,9 @@ ghost use Rattle.cv_pool.specs.Nodes.{ChildBelow};
 ghost use Rattle.cv_syntax.specs.PoolTrees.{tree_at};
 ghost use Rattle.cv_directory.specs.Tables.{seen};
 ghost use Rattle.cv_query_form.specs.Held.{correspondence_passes, secret_passes, valued};
-ghost use Rattle.cv_query_form.specs.Tests.{passes};
+ghost use Rattle.cv_query_form.specs.Tests.{passes, sides_pass};
 
+use crate::alternatives::has_few_alternatives;
 use crate::arguments::is_left_event;
 use crate::marks::are_marked_alike;
 use crate::secrets::has_values;
@@ -57,5 +58,14 @@ fn correspondence_may_be_asked(
     if !is_left_event(pool, variables, cell.first) {
         return Ok(false);
     }
-    Ok(are_marked_alike(pool, cell.first, cell.second))
+    Ok(sides_may_be_asked(pool, cell.first, cell.second))
+}
+
+/// Whether the sides of a correspondence go together.
+fn sides_may_be_asked(pool: &Pool, left: Option<NodeId>, right: Option<NodeId>) -> bool
+    requires left { ChildBelow (length pool.now.trees) left }
+    requires right { ChildBelow (length pool.now.trees) right }
+    ensures { result ≡ sides_pass (tree_at pool.now.trees left) (tree_at pool.now.trees right) }
+{
+    are_marked_alike(pool, left, right) && has_few_alternatives(pool, right)
 }

@@ -16,7 +16,6 @@ ghost use Rattle.cv_derive_laws.specs.stores.Soundness.{DerivationsHold};
 ghost use Rattle.cv_scene.specs.Scenes.{Scene};
 ghost use Rattle.cv_query.specs.kinds.Closed.{IsClosedQuery};
 ghost use Rattle.cv_query_certificates.specs.Accepted.{IsEntry};
-ghost use Rattle.cv_query_certificates.specs.Alternatives.{has_list};
 ghost use Rattle.cv_query_laws.specs.correspondences.Premises.{is_correspondence};
 ghost use Rattle.cv_query_laws.specs.routes.Ends.{AreMetBy};
 
@@ -27,7 +26,7 @@ use cv_derive_laws::stores::stores_are_typed_at_each_visit;
 /// this to be of one copy.
 pub fn entries_are_met_by_visits()
     ensures { (s : Scene) (query : Tree) → IsReady s.declarations s.game →
-        DerivationsHold s.declarations → is_correspondence query ≡ true → has_list query ≡ true →
+        DerivationsHold s.declarations → is_correspondence query ≡ true →
         IsClosedQuery s.declarations query →
         (i : Interpretation) → Satisfies s.declarations i → (a : Adversary) →
         (place : ℕ) (entry : Tree) → IsEntry s (correspondence_of query) place entry →

@@ -24,6 +24,6 @@ route_form s p (RightTerm m) t = refl
 
 pub entry_form : (s : Scene) (q : Correspondence) (p : ℕ) (entry : Tree) → has_form s q p entry ≡ has_saying s q p (saying_of entry)
 entry_form s q p (Node AtEntry n (Node NeverEntry by e)) = refl
-entry_form s q p (Node AtEntry n (Node WithEntry ws routes)) = refl
+entry_form s q p (Node AtEntry n (Node WithEntry ws choice)) = refl
 entry_form s q p (Node AtEntry n t) = refl
 entry_form s q p t = refl

@@ -3,3 +3,5 @@ pub mod Leaving
 pub mod Meeting
 pub mod Making
 pub mod Walking
+pub mod Reaching
+pub mod Copying

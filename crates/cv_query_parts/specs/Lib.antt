@@ -1,3 +1,4 @@
+pub mod Alternatives
 pub mod Views
 pub mod Said
 pub mod Countable

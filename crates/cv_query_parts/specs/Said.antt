@@ -9,9 +9,8 @@ use Rattle.cv_meaning.specs.Correspondences as query
 use Rattle.cv_meaning.specs.Correspondences.{Correspondence, RightEvent, RightTerm}
 use Rattle.cv_scene.specs.Scenes.{Scene}
 use Rattle.cv_scene.specs.Sights.{is_cell_at, sight_at}
-use Rattle.cv_query_certificates.specs.Alternatives.{only_atoms}
 use Rattle.cv_query_certificates.specs.EventNodes.{are_for, arguments_at, is_event_above, only_site, place_in}
-use Rattle.cv_query_certificates.specs.Forms.{have_route_forms, have_types, is_above_site, is_number}
+use Rattle.cv_query_certificates.specs.Forms.{has_choice, have_types, is_above_site, is_number}
 use Rattle.cv_query_parts.specs.declared.views.Atom.{Atom}
 use Rattle.cv_query_parts.specs.declared.views.Atom.TheVariants as atom
 use Rattle.cv_query_parts.specs.declared.views.Entry.{Entry}
@@ -66,16 +65,16 @@ abbrev pub IsAtomBelow : ℕ → Atom → Type 0
 IsAtomBelow n (atom.Event inj f ms) = ChildBelow n ms
 IsAtomBelow n (atom.Term m) = ChildBelow n m
 
--- an entry: a place that is never reached, by a derivation; a place with witnesses and routes; or no entry
+-- an entry: a place that is never reached, by a derivation; a place with witnesses and the choice of an alternative; or no entry
 
 pub data Saying : Type 0 where
   Never : (place by : Tree) → Saying
-  With : (place witnesses routes : Tree) → Saying
+  With : (place witnesses choice : Tree) → Saying
   Nothing : Saying
 
 abbrev pub saying_at : (place rest : Tree) → Saying
 saying_at n (Node NeverEntry by e) = Never n by
-saying_at n (Node WithEntry ws routes) = With n ws routes
+saying_at n (Node WithEntry ws choice) = With n ws choice
 saying_at n t = Nothing
 
 abbrev pub saying_of : Tree → Saying
@@ -84,19 +83,19 @@ saying_of t = Nothing
 
 abbrev pub saying_seen : List KindTree → Entry → Saying
 saying_seen trees (entry.Never n by) = Never (tree_at trees n) (tree_at trees by)
-saying_seen trees (entry.With n ws rs) = With (tree_at trees n) (tree_at trees ws) (tree_at trees rs)
+saying_seen trees (entry.With n ws choice) = With (tree_at trees n) (tree_at trees ws) (tree_at trees choice)
 saying_seen trees entry.Other = Nothing
 
 abbrev pub IsEntryBelow : ℕ → Entry → Type 0
 IsEntryBelow n (entry.Never m by) = ChildBelow n m × ChildBelow n by
-IsEntryBelow n (entry.With m ws rs) = ChildBelow n m × ChildBelow n ws × ChildBelow n rs
+IsEntryBelow n (entry.With m ws choice) = ChildBelow n m × ChildBelow n ws × ChildBelow n choice
 IsEntryBelow n entry.Other = Unit {0}
 
--- the form of an entry with witnesses and routes
-abbrev pub has_with : Scene → Correspondence → (place : ℕ) → (witnesses routes : Tree) → Bool
-has_with s q p ws routes = are_for q.variables (arguments_at s.game p) && (have_types (sight_at s p) q.others ws && have_route_forms s p (only_atoms q) routes)
+-- the form of an entry with witnesses and a choice
+abbrev pub has_with : Scene → Correspondence → (place : ℕ) → (witnesses choice : Tree) → Bool
+has_with s q p ws choice = are_for q.variables (arguments_at s.game p) && (have_types (sight_at s p) q.others ws && has_choice s q p choice)
 
 abbrev pub has_saying : Scene → Correspondence → (place : ℕ) → Saying → Bool
 has_saying s q p (Never n by) = is_number p n
-has_saying s q p (With n ws routes) = is_number p n && has_with s q p ws routes
+has_saying s q p (With n ws choice) = is_number p n && has_with s q p ws choice
 has_saying s q p Nothing = false

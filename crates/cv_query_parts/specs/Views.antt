@@ -1,5 +1,5 @@
 -- A game whose certificates are read, and a correspondence, as the code has them.
-use Rattle.std.specs.Prelude.{◌≡◌, ℕ, ◌<◌, ◌^◌, All, IfSome, List, [], ◌∷◌, Some, length}
+use Rattle.std.specs.Prelude.{◌≡◌, ℕ, ◌<◌, ◌^◌, All, IfSome, List, Some, length}
 use Rattle.cv_pool.specs.KindTree.{KindTree}
 use Rattle.cv_pool.specs.Nodes.{ChildBelow}
 use Rattle.cv_pool.specs.declared.node.NodeId.{NodeId}
@@ -15,7 +15,8 @@ use Rattle.cv_scope_rules.specs.typing.Signature.{OfGame}
 use Rattle.cv_typing.specs.Tables.{arrays_of, directory_in}
 use Rattle.cv_typing.specs.declared.arrays.Arrays.{Arrays}
 use Rattle.cv_scope_rules.specs.Phrases.{IsWellFormed}
-use Rattle.cv_meaning.specs.Correspondences.{Correspondence, atoms_of, leaf_names, numbered}
+use Rattle.cv_meaning.specs.Correspondences.{Correspondence, leaf_names}
+use Rattle.cv_query_parts.specs.Alternatives.{AreAlternativesBelow, alternatives_seen}
 use Rattle.cv_scene.specs.Scenes.{Scene}
 use Rattle.cv_scene_view.specs.Kept as kept
 use Rattle.cv_query_parts.specs.declared.views.Asked.{Asked}
@@ -48,10 +49,10 @@ asked_of trees a = record {
   event = a.event;
   variables = leaf_names (tree_at trees a.variables);
   others = a.others.now;
-  alternatives = numbered 1 (atoms_of (tree_at trees a.atoms)) ∷ [];
+  alternatives = alternatives_seen trees a.alternatives.now;
 }
 
 -- its nodes are below a number
 pub record IsAskedBelow (n : ℕ) (a : Asked) : Type 0 where
   pub variables : ChildBelow n a.variables
-  pub atoms : ChildBelow n a.atoms
+  pub alternatives : AreAlternativesBelow n a.alternatives.now

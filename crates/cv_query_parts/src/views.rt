@@ -5,6 +5,7 @@ ghost use Rattle.cv_syntax.specs.PoolTrees.{tree_at};
 ghost use Rattle.cv_meaning.specs.Correspondences as query;
 ghost use Rattle.cv_query_parts.specs.Said.{IsAtomBelow, IsEntryBelow, IsRouteBelow, atom_seen, cell_way, saying_at, saying_of, saying_seen, way_of, way_seen};
 
+use crate::alternatives::NumberedAtom;
 use crate::parts::place_in;
 use cv_syntax::{Head, NodeId, Pool, Work, read_node};
 use cv_typing::Arrays;
@@ -18,14 +19,14 @@ pub struct View<'a> {
 }
 
 /// A correspondence: its left event with the list of its variables, the variables on the right alone with their types, and the
-/// list of its atoms.
+/// alternatives of its right side.
 #[derive(Clone, Copy)]
 pub struct Asked<'a> {
     pub inj: bool,
     pub event: u32,
     pub variables: Option<NodeId>,
     pub others: &'a [(u32, u32)],
-    pub atoms: Option<NodeId>,
+    pub alternatives: &'a [Vec<NumberedAtom>],
 }
 
 /// An atom of a correspondence.
@@ -69,7 +70,7 @@ pub enum Entry {
     With {
         place: Option<NodeId>,
         witnesses: Option<NodeId>,
-        routes: Option<NodeId>,
+        choice: Option<NodeId>,
     },
     /// The tree is no entry.
     Other,
@@ -209,7 +210,7 @@ fn said_of(pool: &Pool, place: Option<NodeId>, rest: Option<NodeId>) -> Entry
         Head::WithEntry => Entry::With {
             place,
             witnesses: node.first,
-            routes: node.second,
+            choice: node.second,
         },
         _ => Entry::Other,
     }

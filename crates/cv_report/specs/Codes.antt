@@ -13,4 +13,3 @@ code_of status.Read = 4
 code_of status.Write = 5
 code_of status.Memory = 6
 code_of (status.Limit which) = 7
-code_of status.Unbuilt = 8

@@ -163,7 +163,6 @@ end_text (status.Limit (Nodes count)) = codes "end 7 limit: nodes\n"
 end_text (status.Limit (Depth depth)) = codes "end 7 limit: depth\n"
 end_text (status.Limit Steps) = codes "end 7 limit: steps\n"
 end_text (status.Limit (Pool need)) = codes "end 7 limit: pool\n"
-end_text status.Unbuilt = codes "end 8 unbuilt\n"
 
 -- the game of a file and the steps, with the games that they lead to
 abbrev pub games_text : Report → File → List ℕ

@@ -107,8 +107,6 @@ pub enum Status {
     Write,
     Memory,
     Limit(Which),
-    /// The file has a step that isn't checked yet.
-    Unbuilt,
 }
 
 impl Status {
@@ -126,7 +124,6 @@ impl Status {
             Status::Write => 5,
             Status::Memory => 6,
             Status::Limit(_) => 7,
-            Status::Unbuilt => 8,
         }
     }
 }

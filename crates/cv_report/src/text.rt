@@ -334,7 +334,6 @@ pub(crate) fn push_end(out: &mut Vec<u8>, status: Status) -> Result<(), AllocErr
         Status::Limit(Which::Depth { depth: _ }) => out.extend_from_slice(b"end 7 limit: depth\n"),
         Status::Limit(Which::Steps) => out.extend_from_slice(b"end 7 limit: steps\n"),
         Status::Limit(Which::Pool { need: _ }) => out.extend_from_slice(b"end 7 limit: pool\n"),
-        Status::Unbuilt => out.extend_from_slice(b"end 8 unbuilt\n"),
     }
 }
 

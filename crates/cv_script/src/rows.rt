@@ -2,4 +2,4 @@
 
 mod rows;
 
-pub use rows::{BUILT_SCRIPT, SCRIPT, STEP, script_rows};
+pub use rows::{SCRIPT, STEP, script_rows};

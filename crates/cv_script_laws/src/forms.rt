@@ -2,7 +2,4 @@
 
 mod laws;
 
-pub use laws::{
-    built_refusals_are_refusals, built_scripts_are_scripts, built_steps_have_rules,
-    scripts_are_decided, steps_have_items,
-};
+pub use laws::{scripts_are_decided, steps_have_items};

@@ -59,7 +59,7 @@ pub fn read_steps_are_trees()
     ensures { (limit live from to : ℕ) (names : List (List ℕ)) (tokens : List Token)
         (steps : List Tree) → AreTokens tokens → to < length tokens → length tokens < 2 ^ 64 →
         AreNames names →
-        script_read script_row limit live names tokens from to ≡ Ok steps →
+        script_read limit live names tokens from to ≡ Ok steps →
         AllByRecursion
         (IsKnownStep (length (script_signs names (between from to tokens)).names)) steps }
 {}
@@ -70,6 +70,6 @@ pub fn read_steps_come_back()
     ensures { (limit live from to : ℕ) (names : List (List ℕ)) (tokens : List Token)
         (steps : List Tree) → AreTokens tokens → to < length tokens → length tokens < 2 ^ 64 →
         AreNames names →
-        script_read script_row limit live names tokens from to ≡ Ok steps →
+        script_read limit live names tokens from to ≡ Ok steps →
         AllByRecursion (IsReadBack (script_signs names (between from to tokens)).names) steps }
 {}

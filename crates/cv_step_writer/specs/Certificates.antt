@@ -1,5 +1,5 @@
 -- The trees of certificates.
-use Rattle.std.specs.Prelude.{ℕ, List, [], ◌∷◌, ◌++◌, map, All}
+use Rattle.std.specs.Prelude.{ℕ, List, [], ◌∷◌, ◌++◌, map, All, Option, None, Some}
 use Rattle.cv_syntax_trees.specs.declared.head.Head.TheVariants as head
 use Rattle.cv_syntax_trees.specs.Tree.{Tree, chain}
 use Rattle.cv_pool.specs.KindTree.{KindTree}
@@ -23,10 +23,15 @@ route_tree trees (route.Holds by) = over head.HoldsRoute (derivation trees by.it
 abbrev pub routes_tree : List KindTree → List Route → Tree
 routes_tree trees routes = chain (map (route_tree trees) routes)
 
+-- the routes of an entry: behind the number of their alternative, where there is more than one
+abbrev pub chosen_tree : List KindTree → (alternative : Option ℕ) → List Route → Tree
+chosen_tree trees None routes = routes_tree trees routes
+chosen_tree trees (Some a) routes = over head.AlternativePart (number a ∷ routes_tree trees routes ∷ [])
+
 abbrev pub entry_tree : List KindTree → Entry → Tree
 entry_tree trees (entry.Never p by) = over head.AtEntry (number p ∷ over head.NeverEntry (derivation trees by.items ∷ []) ∷ [])
-entry_tree trees (entry.With p ms routes) =
-    over head.AtEntry (number p ∷ over head.WithEntry (terms trees ms.items ∷ routes_tree trees routes.items ∷ []) ∷ [])
+entry_tree trees (entry.With p ms a routes) =
+    over head.AtEntry (number p ∷ over head.WithEntry (terms trees ms.items ∷ chosen_tree trees a routes.items ∷ []) ∷ [])
 
 -- the variables that are named `distinct`, where there are any
 abbrev pub distinct_part : List NameId → List Tree
@@ -57,7 +62,7 @@ IsRouteBelow n (route.Holds by) = AreLinesBelow n by.items
 
 abbrev pub IsEntryBelow : ℕ → Entry → Type 0
 IsEntryBelow n (entry.Never p by) = AreLinesBelow n by.items
-IsEntryBelow n (entry.With p ms routes) = All (IsBelow n) ms.items × All (IsRouteBelow n) routes.items
+IsEntryBelow n (entry.With p ms a routes) = All (IsBelow n) ms.items × All (IsRouteBelow n) routes.items
 
 abbrev pub IsPairBelow : ℕ → Pair → Type 0
 IsPairBelow n p = AreLinesBelow n p.by.items

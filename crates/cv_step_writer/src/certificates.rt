@@ -29,10 +29,12 @@ pub enum Entry {
         place: u64,
         by: Vec<Line>,
     },
-    /// There are terms for the variables on the right alone, and a route for each right event and term, in order.
+    /// There are terms for the variables on the right alone, and a route for each right event and term, in order; of the alternative
+    /// of a number, from 1, where there is more than one.
     With {
         place: u64,
         terms: Vec<NodeId>,
+        alternative: Option<u64>,
         routes: Vec<Route>,
     },
 }

@@ -3,7 +3,7 @@ use Rattle.std.specs.Prelude.{◌≡◌, ℕ, ◌+◌, ◌*◌, ◌/◌, ◌%◌
 use Rattle.std.proofs.Common.{ap, arith}
 use Rattle.cv_syntax_trees.specs.declared.head.Code.{Code}
 use Rattle.cv_syntax_trees.specs.declared.head.Head.{Head}
-use Rattle.cv_syntax_trees.specs.declared.head.Head.TheVariants.{Stop, Yield, Par, Repl, In, Out, Event, New, Let, If, Find, Branch, Leaf, Read, Apply, Eq, And, Or, Not, Yes, No, Cons, Binder, Name, Number, Forall, Query, Occurs, OccursOnce, Secret, SecretOnce, Equivalence, Bound, Single, Oracle, RenameStep, RewriteStep, PruneStep, PickStep, MergeStep, SplitStep, LetStep, NewStep, UnletStep, UnnewStep, MoveStep, ArrayRenameStep, CodefStep, BirthdayStep, GuessStep, FreshStep, CryptoStep, SuccessStep, SimplifyStep, ThenPart, ElsePart, AddPart, DropPart, Line, Defined, Cases, Primed, ByFact, ByHere, ByOf, BySite, ByEquation, ByRefl, BySym, ByTrans, ByCong, ByMp, ByAnd, ByLeft, ByRight, ByContra, ByExfalso, ByData, ByGiven, ByAgain, ByBool, ByOtherFact, ByOtherHere, BySame, ByDistinct, ByLate, EventsCertificate, SecretCertificate, AtEntry, NeverEntry, WithEntry, AboveRoute, CellRoute, HoldsRoute, DistinctPart, Pair, SecretPair, Key, Call, AllOf, SomeOf, AlternativePart}
+use Rattle.cv_syntax_trees.specs.declared.head.Head.TheVariants.{Stop, Yield, Par, Repl, In, Out, Event, New, Let, If, Find, Branch, Leaf, Read, Apply, Eq, And, Or, Not, Yes, No, Cons, Binder, Name, Number, Forall, Query, Occurs, OccursOnce, Secret, SecretOnce, Equivalence, Bound, Single, Oracle, RenameStep, RewriteStep, PruneStep, PickStep, MergeStep, SplitStep, LetStep, NewStep, UnletStep, UnnewStep, MoveStep, ArrayRenameStep, CodefStep, BirthdayStep, GuessStep, FreshStep, CryptoStep, SuccessStep, SimplifyStep, ThenPart, ElsePart, AddPart, DropPart, Line, Defined, Cases, Primed, ByFact, ByHere, ByOf, BySite, ByEquation, ByRefl, BySym, ByTrans, ByCong, ByMp, ByAnd, ByLeft, ByRight, ByContra, ByExfalso, ByData, ByGiven, ByAgain, ByBool, ByOtherFact, ByOtherHere, BySame, ByDistinct, ByLate, EventsCertificate, SecretCertificate, AtEntry, NeverEntry, WithEntry, AboveRoute, CellRoute, HoldsRoute, DistinctPart, Pair, SecretPair, Key, Call, SomeOf, AlternativePart}
 
 -- a tag and two numbers below 2 ^ 32
 abbrev pub numbered : ℕ → ℕ → ℕ → Code
@@ -113,15 +113,14 @@ code DistinctPart = numbered 93 0 0
 code Pair = numbered 94 0 0
 code SecretPair = numbered 95 0 0
 code (Key x) = numbered 96 x 0
-code AllOf = numbered 98 0 0
-code SomeOf = numbered 99 0 0
-code AlternativePart = numbered 100 0 0
-code (Call x y) = numbered 101 x y
+code SomeOf = numbered 98 0 0
+code AlternativePart = numbered 99 0 0
+code (Call x y) = numbered 100 x y
 
 -- the head of a code
 abbrev pub decoded : Code → Head
 decoded k =
-    if nat_lt 100 k.tag then Call k.a k.b else
+    if nat_lt 99 k.tag then Call k.a k.b else
     if k.tag == 0 then Stop else if k.tag == 1 then Yield else if k.tag == 2 then Par else if k.tag == 3 then Repl k.a k.b else if k.tag == 4 then In k.a else
     if k.tag == 5 then Out k.a else if k.tag == 6 then Event k.a else if k.tag == 7 then New k.a k.b else if k.tag == 8 then Let k.a k.b else if k.tag == 9 then If else
     if k.tag == 10 then Find (k.a + 2 ^ 32 * k.b) else if k.tag == 11 then Branch else if k.tag == 12 then Leaf k.a else if k.tag == 13 then Read k.a else if k.tag == 14 then Apply k.a else
@@ -141,7 +140,7 @@ decoded k =
     if k.tag == 80 then ByBool else if k.tag == 81 then ByOtherFact else if k.tag == 82 then ByOtherHere else if k.tag == 83 then BySame else if k.tag == 84 then ByDistinct else
     if k.tag == 85 then EventsCertificate else if k.tag == 86 then SecretCertificate else if k.tag == 87 then AtEntry else if k.tag == 88 then NeverEntry else if k.tag == 89 then WithEntry else
     if k.tag == 90 then AboveRoute else if k.tag == 91 then CellRoute else if k.tag == 92 then HoldsRoute else if k.tag == 93 then DistinctPart else if k.tag == 94 then Pair else
-    if k.tag == 95 then SecretPair else if k.tag == 96 then Key k.a else if k.tag == 97 then ByLate else if k.tag == 98 then AllOf else if k.tag == 99 then SomeOf else
+    if k.tag == 95 then SecretPair else if k.tag == 96 then Key k.a else if k.tag == 97 then ByLate else if k.tag == 98 then SomeOf else
     AlternativePart
 
 pub decoded_code : (h : Head) → decoded (code h) ≡ h
@@ -244,7 +243,6 @@ decoded_code Pair = refl
 decoded_code SecretPair = refl
 decoded_code (Key x) = refl
 decoded_code (Call x y) = refl
-decoded_code AllOf = refl
 decoded_code SomeOf = refl
 decoded_code AlternativePart = refl
 
@@ -264,7 +262,6 @@ weight (Equivalence x) = 0
 weight (Bound x y) = 0
 weight (Single x) = 0
 weight (Oracle x) = 0
-weight AllOf = 0
 weight SomeOf = 0
 weight h = 1
 

@@ -169,10 +169,8 @@ pub enum Head {
     Key(u32),
     /// A call of a site, and the variable that takes its answer.
     Call(u32, u32),
-    // The right side of a correspondence with alternatives. These weigh nothing.
-    /// Two right sides that must both be met.
-    AllOf,
-    /// Two right sides of which one must be met.
+    // The right side of a correspondence with alternatives.
+    /// Two right sides of which one must be met. It weighs nothing.
     SomeOf,
     /// The part `alt` of a certificate: the number of the alternative, and the routes of its atoms.
     AlternativePart,
@@ -282,10 +280,9 @@ impl Head {
             Head::Pair => (94, 0, 0),
             Head::SecretPair => (95, 0, 0),
             Head::Key(x) => (96, x, 0),
-            Head::AllOf => (98, 0, 0),
-            Head::SomeOf => (99, 0, 0),
-            Head::AlternativePart => (100, 0, 0),
-            Head::Call(x, y) => (101, x, y),
+            Head::SomeOf => (98, 0, 0),
+            Head::AlternativePart => (99, 0, 0),
+            Head::Call(x, y) => (100, x, y),
         };
         Code { tag, a, b }
     }
@@ -310,7 +307,6 @@ impl Head {
             | Head::Bound(_, _)
             | Head::Single(_)
             | Head::Oracle(_)
-            | Head::AllOf
             | Head::SomeOf => 0,
             _ => 1,
         }
@@ -420,10 +416,9 @@ impl Head {
             95 => Head::SecretPair,
             96 => Head::Key(a),
             97 => Head::ByLate,
-            98 => Head::AllOf,
-            99 => Head::SomeOf,
-            100 => Head::AlternativePart,
-            101..=255 => Head::Call(a, b),
+            98 => Head::SomeOf,
+            99 => Head::AlternativePart,
+            100..=255 => Head::Call(a, b),
         }
     }
 }

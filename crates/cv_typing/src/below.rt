@@ -155,6 +155,7 @@ fn atom_wants(decls: &Decls, head: Head) -> (Want, Want)
 {
     match head {
         Head::Cons => (Want::Atoms, Want::Atoms),
+        Head::SomeOf => (Want::Atoms, Want::Atoms),
         Head::Occurs(e) => (wants_of_event(decls, e), Want::NoTerms),
         Head::OccursOnce(e) => (wants_of_event(decls, e), Want::NoTerms),
         _ => (Want::NoTerms, Want::NoTerms),

@@ -1,14 +1,14 @@
 // Certificates with their terms in the pool.
 ghost use Rattle.std.specs.Prelude.{◌≤◌, ℕ, All, IfOk, length};
 ghost use Rattle.cv_pool.specs.PoolView.{Grows};
-ghost use Rattle.cv_step_writer.specs.Certificates.{IsCertificateBelow, IsEntryBelow, IsPairBelow, IsRouteBelow};
+ghost use Rattle.cv_step_writer.specs.Certificates.{IsCertificateBelow, IsEntryBelow, IsPairBelow, IsRouteBelow, IsSecretPairBelow};
 ghost use Rattle.cv_step_writer.specs.Derivations.{AreLinesBelow};
 
-use crate::certificates::{Certificate, Entry, Pair, Route};
 use crate::proposing::lines::{lines_of, node_of, nodes_of};
 use crate::proposing::shortage::Shortage;
 use cv_closure::{TermId, Terms};
 use cv_closure_lines::Derivation;
+use cv_direct_search::{Certificate, Entry, Pair, Route, SecretPair};
 use cv_grounds::plant_terms;
 use cv_step_writer as writer;
 use cv_syntax::{NameId, Pool};
@@ -101,6 +101,7 @@ fn plant_with(
     place: u32,
     table: &Terms,
     terms: &[TermId],
+    alternative: Option<u64>,
     routes: &[Route],
 ) -> Result<writer::Entry, Shortage>
     ensures below { IfOk result (λ e. (n : ℕ) → length pool.new.trees ≤ n → IsEntryBelow n e) }
@@ -112,6 +113,7 @@ fn plant_with(
     Ok(writer::Entry::With {
         place: u64::from(place),
         terms,
+        alternative,
         routes,
     })
 }
@@ -134,8 +136,9 @@ fn plant_entry(alloc: Global, pool: &mut Pool, entry: &Entry) -> Result<writer::
             place,
             table,
             terms,
+            alternative,
             routes,
-        } => plant_with(alloc, pool, *place, table, terms, routes),
+        } => plant_with(alloc, pool, *place, table, terms, *alternative, routes),
     }
 }
 
@@ -192,6 +195,43 @@ fn plant_pairs(
     Ok(list)
 }
 
+/// A pair of definitions, with its terms in the pool.
+#[tactic(auto, using(crate::proofs::Below::planting))]
+fn plant_secret_pair(
+    alloc: Global,
+    pool: &mut Pool,
+    pair: &SecretPair,
+) -> Result<writer::SecretPair, Shortage>
+    ensures below { IfOk result (λ p. (n : ℕ) → length pool.new.trees ≤ n → IsSecretPairBelow n p) }
+    ensures grows { Grows pool.old pool.new }
+{
+    let by = plant_lines(alloc, pool, &pair.by)?;
+    Ok(writer::SecretPair {
+        first: u64::from(pair.first),
+        second: u64::from(pair.second),
+        by,
+    })
+}
+
+/// Pairs of definitions, with their terms in the pool.
+#[tactic(auto, using(crate::proofs::Below::planting))]
+fn plant_secret_pairs(
+    alloc: Global,
+    pool: &mut Pool,
+    pairs: &[SecretPair],
+) -> Result<Vec<writer::SecretPair>, Shortage>
+    ensures below { IfOk result (λ ps. (n : ℕ) → length pool.new.trees ≤ n
+        → All (IsSecretPairBelow n) ps.items) }
+    ensures grows { Grows pool.old pool.new }
+{
+    let mut list = Vec::new(alloc);
+    for pair in pairs {
+        let next = plant_secret_pair(alloc, pool, pair)?;
+        list.push(next)?;
+    }
+    Ok(list)
+}
+
 /// The names of arrays.
 fn names_of(alloc: Global, arrays: &[u32]) -> Result<Vec<NameId>, AllocError> {
     let mut names = Vec::new(alloc);
@@ -234,9 +274,10 @@ pub(crate) fn plant_certificate(
     ensures grows { Grows pool.old pool.new }
 {
     match certificate {
-        Certificate::Secret => Ok(writer::Certificate::Secret {
-            pairs: Vec::new(alloc),
-        }),
+        Certificate::Secret { pairs } => {
+            let pairs = plant_secret_pairs(alloc, pool, pairs)?;
+            Ok(writer::Certificate::Secret { pairs })
+        }
         Certificate::Events {
             entries,
             distinct,

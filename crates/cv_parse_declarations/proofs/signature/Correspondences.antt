@@ -3,7 +3,7 @@ use Rattle.std.proofs.Common.{◌≡◌, ◌≢◌, subst, ℕ, Bool, true, fals
 use Rattle.std.specs.Prelude.{Result, Ok, Err}
 use Rattle.cv_syntax_trees.specs.declared.head.Head.TheVariants.{Cons, Query as Correspondence, Secret, SecretOnce}
 use Rattle.cv_syntax.specs.declared.make.Make.{Make}
-use Rattle.cv_syntax_trees.specs.Tree.{Tree, Empty, Node, chain, lone}
+use Rattle.cv_syntax_trees.specs.Tree.{Tree, Empty, Node, lone}
 use Rattle.cv_parse_notation.specs.declared.sign.Sign.{Sign}
 use Rattle.cv_parse_notation.specs.declared.sign.Mark.{Mark}
 use Rattle.cv_parse_notation.specs.declared.sign.Mark.TheVariants as mark
@@ -14,10 +14,9 @@ use Rattle.cv_parse_notation.proofs.Sound.{bind_ok, same_found}
 use Rattle.cv_parse_grammar.specs.declared.role.Role.{Role}
 use Rattle.cv_parse_grammar.specs.declared.role.Role.TheVariants.{BindsLocal, Enters, Leaves, Unchecked}
 use Rattle.cv_parse_grammar.specs.declared.role.Region.TheVariants.{InQuery}
-use Rattle.cv_parse_grammar.specs.Phrases.{Phrase, inside, listed, row, vars}
+use Rattle.cv_parse_grammar.specs.Phrases.{Phrase, inside, listed, vars}
 use Rattle.cv_parse_grammar.specs.Rules.{heads}
-use Rattle.cv_parse_grammar.specs.Terms.{equality}
-use Rattle.cv_parse_grammar.specs.Declarations.{correspondence, event, secrecy}
+use Rattle.cv_parse_grammar.specs.Declarations.{correspondence, event, right_side, secrecy}
 use Rattle.cv_parse_terms.specs.declared.lookahead.ReadError.{ReadError}
 use Rattle.cv_parse_terms.specs.declared.trail.Trail.{Trail}
 use Rattle.cv_parse_terms.specs.Gives.{Fails, Makes, Stands, read_in}
@@ -56,7 +55,7 @@ secrecy_gives n ts x e =
 query_gives : (n : ℕ) → GivesTrees (read_in n (either secrecy correspondence))
 query_gives n ts x e =
     either_gives (next_is (starts heads secrecy) ts) (read_in n secrecy) (read_in n correspondence) ts x (secrecy_gives n)
-    (not_empty n (listed (vars BindsLocal ◂ mark.Semicolon) & (event & (mark.Implies ▸ row mark.Both (either event equality)))) (λ (l, (e, atoms)). Node Correspondence l (Node Cons e (chain atoms))) (λ x e. absurd (cc))) e
+    (not_empty n (listed (vars BindsLocal ◂ mark.Semicolon) & (event & (mark.Implies ▸ right_side))) (λ (l, (e, right)). Node Correspondence l (Node Cons e right)) (λ x e. absurd (cc))) e
 
 first_all : {A B : Type 0} (r : Read Role A) (q : Reader Role B) (y : Found Role (A × B)) (P : A → Type 0) → ((x : Found Role A) → r ≡ Ok x → P x.value) → (r >>= λ x. q x.rest >>= joined x) ≡ Ok y → P y.value.0
 first_all r q y P h i =

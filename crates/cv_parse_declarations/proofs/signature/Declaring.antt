@@ -182,7 +182,7 @@ of_equation n = record {
   whole = λ ts x i. (is_there Forall x.value.0 x.value.1, tt);
 }
 
-of_query : (n : ℕ) → Told n 189 (heard_in kind.Query) (mark.QueryWord ▸ inside InQuery (either secrecy correspondence) ◂ mark.Dot) (λ t. Query t ∷ []) grows
+of_query : (n : ℕ) → Told n 214 (heard_in kind.Query) (mark.QueryWord ▸ inside InQuery (either secrecy correspondence) ◂ mark.Dot) (λ t. Query t ∷ []) grows
 of_query n = record {
   within = lit< tt;
   says = says_query n;

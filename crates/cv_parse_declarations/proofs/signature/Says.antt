@@ -17,10 +17,10 @@ use Rattle.cv_parse_grammar.specs.declared.role.Region.{Region}
 use Rattle.cv_parse_grammar.specs.declared.role.Region.TheVariants.{InEquation, InQuery}
 use Rattle.cv_parse_grammar.specs.declared.role.Role.{Role}
 use Rattle.cv_parse_grammar.specs.declared.role.Role.TheVariants.{Declares, Asks, BindsLocal, Enters, Leaves, Unchecked}
-use Rattle.cv_parse_grammar.specs.Phrases.{Phrase, or_else, row, square, listed, type_name, vars, inside}
+use Rattle.cv_parse_grammar.specs.Phrases.{Phrase, RightSide, or_else, row, square, listed, type_name, vars, inside}
 use Rattle.cv_parse_grammar.specs.Rules.{heads}
 use Rattle.cv_parse_grammar.specs.Terms.{equality, term}
-use Rattle.cv_parse_grammar.specs.Declarations.{ids, type_option, type_options, type_list, is_there, data_option, forall_vars, happens, event, correspondence, secrecy}
+use Rattle.cv_parse_grammar.specs.Declarations.{alternative, bracketed_right_side, ids, type_option, type_options, type_list, is_there, data_option, forall_vars, happens, event, correspondence, right_item, right_side, secrecy}
 use Rattle.cv_parse_terms.specs.declared.piece.Ahead.TheVariants as ahead
 use Rattle.cv_parse_terms.specs.declared.piece.Naming.{Naming}
 use Rattle.cv_parse_terms.specs.declared.piece.Naming.TheVariants as naming
@@ -30,8 +30,8 @@ use Rattle.cv_parse_terms.specs.declared.piece.Piece.TheVariants as piece
 use Rattle.cv_parse_terms.specs.Gives.{read_in}
 use Rattle.cv_parse_terms.specs.Tables.{Parts, closed, closer, head_of, named, part, put, repeated, waits}
 use Rattle.cv_parse_terms.specs.TermRows.{row_of}
-use Rattle.cv_parse_terms.proofs.Saying.{Says, between, both_says, chain_closes, each, either_says, grows, head_behind, level_says, list_says, made_says, may_says, name_waits, names_close, next_or, note_says, part_behind, row_says, same_says, sign_before, sign_behind, sign_says, some_says, value_behind, word_says}
-use Rattle.cv_parse_terms.proofs.TermSays.{deep, says_arguments, says_equality, says_listed, says_local_vars, says_term, says_type, three, with_makes}
+use Rattle.cv_parse_terms.proofs.Saying.{IsBelow, Says, alternatives_says, between, both_says, chain_closes, deeper_says, each, either_says, grows, head_behind, level_says, list_says, made_says, may_says, name_waits, names_close, next_or, none_below, note_says, part_behind, row_says, same_says, sign_before, sign_behind, sign_says, some_says, value_behind, word_says}
+use Rattle.cv_parse_terms.proofs.TermSays.{deep, one_below, says_arguments, says_equality, says_listed, says_local_vars, says_term, says_type, three, with_makes}
 
 -- a choice among a choice and another form
 
@@ -238,26 +238,52 @@ says_atom n =
     (either_says 185 (ahead.Mark mark.Inj) 181 184 (lit< tt) (lit< tt) (λ k. refl) (says_own n)
     (either_says 184 (ahead.Mark mark.EventWord) 182 31 (lit< tt) (lit< tt) (λ k. refl) (says_shared n) (says_equality n (deep n))))
 
-says_correspondence : (n : ℕ) → Says n 186 (row_of 186) correspondence grows
+-- right sides, by what reads one in parentheses one level down
+
+abbrev IsRightSideBelow : ℕ → Type 0
+IsRightSideBelow n = IsBelow n (ahead.Mark mark.OpenAtoms) 216 RightSide grows
+
+says_item : (n : ℕ) → IsRightSideBelow n → Says n 187 (row_of 187) right_item grows
+says_item n d = either_says 187 (ahead.Mark mark.OpenAtoms) 186 185 (lit< tt) (lit< tt) (λ k. refl) (deeper_says 186 (ahead.Mark mark.OpenAtoms) 216 d) (says_atom n)
+
+says_alternative : (n : ℕ) → IsRightSideBelow n → Says n 188 (row_of 188) alternative grows
+says_alternative n d = list_says 188 closing.Trees mark.Both 187 chain (lit< tt) chain_closes (says_item n d)
+
+says_alternatives : (n : ℕ) → IsRightSideBelow n → Says n 189 (row_of 189) right_side grows
+says_alternatives n d = alternatives_says 189 mark.Either 188 (lit< tt) (says_alternative n d)
+
+says_in_parentheses : (n : ℕ) → IsRightSideBelow n → Says n 216 (row_of 216) bracketed_right_side grows
+says_in_parentheses n d =
+    level_says 216 (ahead.Mark mark.OpenAtoms) 215 (lit< tt) (λ k. refl)
+    (between mark.OpenAtoms mark.Close (piece.Row 189 ∷ []) (row_says 215 189 (lit< tt) (says_alternatives n d)))
+
+right_side_below : (n : ℕ) → IsRightSideBelow n
+right_side_below zero = none_below (ahead.Mark mark.OpenAtoms) 216 RightSide grows (λ k. refl)
+right_side_below (suc n) = one_below n (ahead.Mark mark.OpenAtoms) 216 RightSide (lit< tt) (says_in_parentheses n (right_side_below n))
+
+says_right_side : (n : ℕ) → Says n 189 (row_of 189) right_side grows
+says_right_side n = says_alternatives n (right_side_below n)
+
+says_correspondence : (n : ℕ) → Says n 211 (row_of 211) correspondence grows
 says_correspondence n =
     let binders = piece.Choice ahead.Word 150 54 ∷ [] in
-    let atoms = piece.List closing.Trees mark.Both 185 ∷ [] in
-    let rest = piece.Row 183 ∷ (piece.Sign mark.Implies ∷ atoms) in
-    made_says (λ (l, (e, atoms)). Node head.Query l (Node head.Cons e (chain atoms))) grows
-    (same_says (λ c. grows (Node head.Query c.0 (Node head.Cons c.1.0 (chain c.1.1)))) (λ c q. closes_correspondence c.0 c.1.0 (chain c.1.1) q)
+    let right = piece.Row 189 ∷ [] in
+    let rest = piece.Row 183 ∷ (piece.Sign mark.Implies ∷ right) in
+    made_says (λ (l, (e, r)). Node head.Query l (Node head.Cons e r)) grows
+    (same_says (λ c. grows (Node head.Query c.0 (Node head.Cons c.1.0 c.1.1))) (λ c q. closes_correspondence c.0 c.1.0 c.1.1 q)
     (part_behind (Over head.Query) (binders ++ (rest ++ piece.Part (Over head.Cons) ∷ []))
     (part_behind (Over head.Cons) (binders ++ rest)
-    (both_says binders rest (says_listed 186 ahead.Word 150 (lit< tt) (lit< tt) (λ k. refl) (says_some_vars n))
-    (both_says (piece.Row 183 ∷ []) (piece.Sign mark.Implies ∷ atoms) (row_says 186 183 (lit< tt) (says_event n))
-    (sign_before mark.Implies atoms (some_says 186 closing.Trees mark.Both 185 (λ l. grows (chain l)) (lit< tt) chain_closes (says_atom n))))))))
+    (both_says binders rest (says_listed 211 ahead.Word 150 (lit< tt) (lit< tt) (λ k. refl) (says_some_vars n))
+    (both_says (piece.Row 183 ∷ []) (piece.Sign mark.Implies ∷ right) (row_says 211 183 (lit< tt) (says_event n))
+    (sign_before mark.Implies right (row_says 211 189 (lit< tt) (says_right_side n))))))))
 
-says_asked : (n : ℕ) → Says n 188 (row_of 188) (either secrecy correspondence) grows
+says_asked : (n : ℕ) → Says n 213 (row_of 213) (either secrecy correspondence) grows
 says_asked n =
     choice_says
-    (either_says 188 (ahead.Mark mark.Secret) 178 187 (lit< tt) (lit< tt) (λ k. refl) (says_secret n 178 mark.Secret naming.Secret)
-    (either_says 187 (ahead.Mark mark.SecretOnce) 179 186 (lit< tt) (lit< tt) (λ k. refl) (says_secret n 179 mark.SecretOnce naming.SecretOnce) (says_correspondence n)))
+    (either_says 213 (ahead.Mark mark.Secret) 178 212 (lit< tt) (lit< tt) (λ k. refl) (says_secret n 178 mark.Secret naming.Secret)
+    (either_says 212 (ahead.Mark mark.SecretOnce) 179 211 (lit< tt) (lit< tt) (λ k. refl) (says_secret n 179 mark.SecretOnce naming.SecretOnce) (says_correspondence n)))
 
-pub says_query : (n : ℕ) → Says n 189 (row_of 189) (mark.QueryWord ▸ inside InQuery (either secrecy correspondence) ◂ mark.Dot) grows
+pub says_query : (n : ℕ) → Says n 214 (row_of 214) (mark.QueryWord ▸ inside InQuery (either secrecy correspondence) ◂ mark.Dot) grows
 says_query n =
-    between mark.QueryWord mark.Dot (piece.Note (Enters InQuery) ∷ (piece.Row 188 ∷ (piece.Note Leaves ∷ [])))
-    (inside_says InQuery (piece.Row 188 ∷ []) (row_says 189 188 (lit< tt) (says_asked n)))
+    between mark.QueryWord mark.Dot (piece.Note (Enters InQuery) ∷ (piece.Row 213 ∷ (piece.Note Leaves ∷ [])))
+    (inside_says InQuery (piece.Row 213 ∷ []) (row_says 214 213 (lit< tt) (says_asked n)))

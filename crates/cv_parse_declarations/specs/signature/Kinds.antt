@@ -21,7 +21,7 @@ row_number Constants = 170
 row_number Function = 176
 row_number Event = 177
 row_number Equation = 152
-row_number Query = 189
+row_number Query = 214
 
 abbrev pub form_of : DeclarationKind → Phrase (List Declaration)
 form_of Parameters = param_decl

@@ -37,7 +37,7 @@ fn row_of(kind: DeclarationKind) -> u16
         DeclarationKind::Function => 176,
         DeclarationKind::Event => 177,
         DeclarationKind::Equation => 152,
-        DeclarationKind::Query => 189,
+        DeclarationKind::Query => 214,
     }
 }
 

@@ -2,7 +2,7 @@
 use Rattle.std.proofs.Common.{◌≡◌, Bool, true, refl}
 use Rattle.std.specs.Prelude.{◌&&◌}
 use Rattle.cv_lists.proofs.Tests.{and_first, and_second}
-use Rattle.cv_parse_grammar.specs.Phrases.{Sort, Term, Conjunction, Primary, Unequal, Arguments, Subscript, Parentheses, Inputs, Input, Output, Pattern, Sending, Payload, Variables, Indices, ProcessBranch, Cells, OneCell, Body, BodyBranch, LeftFunction, RightFunction, RightRest, Braces}
+use Rattle.cv_parse_grammar.specs.Phrases.{Sort, Term, Conjunction, Primary, Unequal, Arguments, Subscript, Parentheses, Inputs, Input, Output, Pattern, Sending, Payload, Variables, Indices, ProcessBranch, Cells, OneCell, Body, BodyBranch, LeftFunction, RightFunction, RightRest, RightSide, Braces}
 use Rattle.cv_parse_grammar.specs.Rules.{rule, heads, tails, file}
 use Rattle.cv_parse_grammar.specs.Terms.{term}
 use Rattle.cv_parse_grammar.proofs.Fitting.{all_fit, file_fits}
@@ -38,6 +38,7 @@ all_tests BodyBranch = refl
 all_tests LeftFunction = refl
 all_tests RightFunction = refl
 all_tests RightRest = refl
+all_tests RightSide = refl
 all_tests Braces = refl
 
 pub all_firm : (s : Sort) → IsFirm heads tails rule s

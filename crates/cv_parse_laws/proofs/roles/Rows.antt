@@ -46,7 +46,7 @@ module _ (ds : List Declaration) where
     pub indices : Is (first t)
     pub message : Is (second t)
 
-  -- what the phrases of a sort have; those of equivalences and of the proof block stand in no game
+  -- what the phrases of a sort have; those of equivalences, of queries and of the proof block stand in no game
   abbrev pub OfSort : Sort → Tree → Type 0
   OfSort sort.Pattern t = IsPattern t
   OfSort sort.Sending t = IsSending t
@@ -56,6 +56,7 @@ module _ (ds : List Declaration) where
   OfSort sort.LeftFunction t = Unit {0}
   OfSort sort.RightFunction t = Unit {0}
   OfSort sort.RightRest t = Unit {0}
+  OfSort sort.RightSide t = Unit {0}
   OfSort sort.Braces t = Unit {0}
   OfSort s t = Is t
 

@@ -1,9 +1,9 @@
 -- Queries of a file that are typed say something of functions, of constants and of their own variables alone.
 use Rattle.std.proofs.Common.{◌≡◌, ℕ, true, List, [], ◌∷◌, flat_map, ◌⊎◌, inl, inr, Option, Ok, refl, sym, subst}
 use Rattle.std.specs.List.{AllByRecursion}
-use Rattle.cv_syntax_trees.specs.declared.head.Head.TheVariants.{Occurs, OccursOnce, Query as Correspondence}
+use Rattle.cv_syntax_trees.specs.declared.head.Head.TheVariants.{Cons, Occurs, OccursOnce, Query as Correspondence, SomeOf}
 use Rattle.cv_syntax_trees.specs.Declarations.{Declaration, Named, Equation, Equiv, Query}
-use Rattle.cv_syntax_trees.specs.Tree.{Tree, Empty, Node, binders, bound_names, chain}
+use Rattle.cv_syntax_trees.specs.Tree.{Tree, Empty, Node, binders, bound_names}
 use Rattle.cv_parse_notation.specs.declared.sign.Sign.{Sign}
 use Rattle.cv_parse_grammar.specs.Whole.{IsRead}
 use Rattle.cv_parse.specs.Parsed.{Parsed, parsed}
@@ -17,7 +17,8 @@ use Rattle.cv_syntax.specs.faults.Walk.{IsObeyed}
 use Rattle.cv_derive_laws.specs.stores.Truth.{is_name_of}
 use Rattle.cv_query.specs.kinds.Closed.{AreClosedAtoms, HasClosedQueries, IsClosedAtom, IsClosedQuery, IsKnown}
 use Rattle.cv_parse_sorts.proofs.queries.Typed.{D, IsUsed, named_locally, term_closed, terms_closed, typed_split, used_functions}
-use Rattle.cv_parse_sorts.proofs.queries.Names.{AreAtomsOver, IfNamed, IsAtomOver, IsNamedQuery, read_queries}
+use Rattle.cv_parse_sorts.proofs.queries.Names.{IfNamed, IsNamedQuery, read_queries}
+use Rattle.cv_parse_sorts.proofs.queries.Terms.{AreAtomsOver, IsAtomOver}
 
 module _ (ts : List Sign) (ds : List Declaration) (s : Option (ℕ × ℕ)) (g : Tree) (r : IsRead ts ds s g) where
   abbrev E : List Declaration
@@ -40,15 +41,17 @@ module _ (ts : List Sign) (ds : List Declaration) (s : Option (ℕ × ℕ)) (g :
     atom_closed (Node (OccursOnce f) ms b) k o = terms_closed E Own (IsUsed ts ds s g r) (local_names (binders vs)) (named_locally vs) (used_functions ts ds s g r) ms _ k.1 o
     atom_closed (Node h a b) k o = term_closed E Own (IsUsed ts ds s g r) (local_names (binders vs)) (named_locally vs) (used_functions ts ds s g r) (Node h a b) Atoms k o
 
-    atoms_closed : (atoms : List Tree) → IsTyped e (local_names (binders vs)) Atoms (chain atoms) → AreAtomsOver L atoms → AreClosedAtoms (IsKnown E (bound_names (binders vs))) (chain atoms)
+    right_closed : (right : Tree) → IsTyped e (local_names (binders vs)) Atoms right → AreAtomsOver L right → AreClosedAtoms (IsKnown E (bound_names (binders vs))) right
     unfolding IsObeyed
-    atoms_closed [] k o = tt
-    atoms_closed (m ∷ ms) k o = (atom_closed m k.1 o.0, atoms_closed ms k.2 o.1)
+    right_closed Empty k o = tt
+    right_closed (Node Cons a b) k o = (right_closed a k.1 o.0, right_closed b k.2 o.1)
+    right_closed (Node SomeOf a b) k o = (right_closed a k.1 o.0, right_closed b k.2 o.1)
+    right_closed (Node h a b) k o = atom_closed (Node h a b) k o
 
   query_closed : (t : Tree) → IsTypedPart E (query_part t) → IsNamedQuery ts ds s g r t → IsClosedQuery E t
   unfolding IsObeyed
   query_closed t k (inl w) =
-      subst (IsClosedQuery E) (sym w.is) (let z = subst (λ t. IsTypedPart E (query_part t)) w.is k in atoms_closed w.variables w.atoms z.2.2 w.over)
+      subst (IsClosedQuery E) (sym w.is) (let z = subst (λ t. IsTypedPart E (query_part t)) w.is k in right_closed w.variables w.right z.2.2 w.over)
   query_closed Empty k (inr n) = tt
   query_closed (Node Correspondence bs sides) k (inr n) = absurd (n bs sides refl)
   query_closed (Node h a b) k (inr n) = tt

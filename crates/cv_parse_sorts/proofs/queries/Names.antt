@@ -5,67 +5,39 @@ use Rattle.std.proofs.lemmas.List.Folds.{list_any-append}
 use Rattle.std.specs.List.{AllByRecursion}
 use Rattle.cv_lists.proofs.Each.{AllByRecursion_append, AllByRecursion_flat_map, AllByRecursion_left}
 use Rattle.cv_syntax_trees.specs.declared.class.Class.{Class}
-use Rattle.cv_syntax_trees.specs.declared.head.Head.TheVariants.{Cons, Occurs, OccursOnce, Query as Correspondence, Secret, SecretOnce}
+use Rattle.cv_syntax_trees.specs.declared.head.Head.TheVariants.{Cons, Query as Correspondence, Secret, SecretOnce}
 use Rattle.cv_syntax_trees.specs.Declarations.{Declaration, Query}
-use Rattle.cv_syntax_trees.specs.Tree.{Tree, Empty, Node, binders, bound_names, chain, lone}
+use Rattle.cv_syntax_trees.specs.Tree.{Tree, Node, binders, bound_names, lone}
 use Rattle.cv_parse_notation.specs.declared.sign.Mark.TheVariants as mark
 use Rattle.cv_parse_notation.specs.declared.sign.Sign.{Sign}
-use Rattle.cv_parse_notation.specs.Form.{Form, either, ◌▸◌, ◌◂◌, ◌&◌}
+use Rattle.cv_parse_notation.specs.Form.{either, ◌▸◌, ◌◂◌, ◌&◌}
 use Rattle.cv_parse_notation.specs.Spells.{Each, IsSort, Relation, Spells, Use, starts}
 use Rattle.cv_parse_grammar.specs.declared.role.Asked.TheVariants.{AFunction}
 use Rattle.cv_parse_grammar.specs.declared.role.Region.TheVariants.{InQuery}
 use Rattle.cv_parse_grammar.specs.declared.role.Role.{Role}
 use Rattle.cv_parse_grammar.specs.declared.role.Role.TheVariants.{Asks, BindsLocal, Mentions, AsCall, AsArray, AsBare, Enters}
-use Rattle.cv_parse_grammar.specs.Declarations.{constant, correspondence, declaration, event, happens, named, query_decl, secrecy}
+use Rattle.cv_parse_grammar.specs.Declarations.{constant, correspondence, declaration, event, named, query_decl, right_side, secrecy}
 use Rattle.cv_parse_grammar.specs.Files.{levels}
 use Rattle.cv_parse_grammar.specs.Names.{Uses, as_bare, as_call, binds, declares_as, is_function, is_own, is_used, known_in, obeys, own_from, part_from}
 use Rattle.cv_parse_grammar.specs.Phrases.{Phrase, Sort, listed, vars}
 use Rattle.cv_parse_grammar.specs.Phrases as sort
 use Rattle.cv_parse_grammar.specs.Rules.{File, heads, rule}
-use Rattle.cv_parse_grammar.specs.Terms.{equality}
 use Rattle.cv_parse_grammar.specs.Whole.{IsRead, built_in}
 use Rattle.cv_parse_grammar.specs.yields.Yields.{AllUsed}
 use Rattle.cv_parse_grammar.proofs.yields.Naming.{all_used}
-use Rattle.cv_parse_grammar.proofs.yields.Yielding.{Gives, anything, behind, follow, forms_tell, one_of, turned, weaker}
+use Rattle.cv_parse_grammar.proofs.yields.Yielding.{Gives, anything, behind, follow, forms_tell, weaker}
 use Rattle.cv_derive_laws.specs.stores.Truth.{is_name_of}
-use Rattle.cv_parse_sorts.proofs.queries.Terms.{AreTermsOver, IsTermOver, Mentioned, OfTerms, of_arguments, of_equality, term_rows}
+use Rattle.cv_parse_sorts.proofs.queries.Terms.{AreAtomsOver, Mentioned, OfTerms, of_right_side, term_rows}
 use Rattle.cv_parse_sorts.proofs.queries.Parts.{AreBinders, Spelled, only_front, vars_bind}
-use Rattle.cv_parse_laws.proofs.roles.Forms.{in_row, or_this}
 use Rattle.cv_parse_laws.proofs.roles.UsedRoles.{IsIn, form_uses, has_roles, sort_uses}
 use Rattle.cv_parse_sorts.proofs.Equations.{IsInside, all_inside, binder_inside, is_of_binder, is_of_term, is_term_sort, no_sorts, own_append, own_kept, part_append, part_kept, term_inside}
 
--- the right side of a correspondence over names of L
+-- the left event and the right side of a correspondence
+abbrev sides : Phrase (Tree × Tree)
+sides = event & (mark.Implies ▸ right_side)
 
-abbrev pub IsAtomOver : (ℕ → Type 0) → Tree → Type 0
-IsAtomOver L (Node (Occurs e) ms b) = AreTermsOver L ms
-IsAtomOver L (Node (OccursOnce e) ms b) = AreTermsOver L ms
-IsAtomOver L m = IsTermOver L m
-
-abbrev pub AreAtomsOver : (ℕ → Type 0) → List Tree → Type 0
-AreAtomsOver L atoms = AllByRecursion (IsAtomOver L) atoms
-
--- the events and terms of a correspondence
-abbrev sides : Phrase (Tree × List Tree)
-sides = event & (mark.Implies ▸ sort.row mark.Both (either event equality))
-
-module _ (L : ℕ → Type 0) where
-  abbrev Makes : {A : Type 0} → Form Role Sort A → (A → Type 0) → Type 0
-  Makes f Q = Gives (Mentioned L) (OfTerms L) f Q
-
-  term_atom : (m : Tree) → IsTermOver L m → IsAtomOver L m
-  term_atom Empty w = absurd w
-  term_atom (Node (Occurs e) ms b) w = absurd w
-  term_atom (Node (OccursOnce e) ms b) w = absurd w
-  term_atom (Node h a b) w = w
-
-  of_happens : Makes happens (λ x. AreTermsOver L x.1)
-  of_happens = behind (weaker (follow anything (or_this Empty tt (weaker (of_arguments L) (λ t w. w.0)))) (λ x w. w.1))
-
-  of_event : Makes event (IsAtomOver L)
-  of_event = one_of (turned (behind of_happens) (λ x w. w)) (turned of_happens (λ x w. w))
-
-  of_sides : Makes sides (λ x. AreAtomsOver L x.1)
-  of_sides = weaker (follow anything (behind (in_row (one_of of_event (weaker (of_equality L) term_atom))))) (λ x w. w.1)
+of_sides : (L : ℕ → Type 0) → Gives (Mentioned L) (OfTerms L) sides (λ x. AreAtomsOver L x.1)
+of_sides L = weaker (follow anything (behind (of_right_side L))) (λ x w. w.1)
 
 -- roles
 
@@ -73,7 +45,11 @@ abbrev is_of_side : Role → Bool
 is_of_side (Asks a) = true
 is_of_side r = is_of_term r
 
-side_roles : (s : Sort) → is_term_sort s ≡ true → has_roles is_of_side is_term_sort (rule s) ≡ true
+abbrev is_side_sort : Sort → Bool
+is_side_sort sort.RightSide = true
+is_side_sort s = is_term_sort s
+
+side_roles : (s : Sort) → is_side_sort s ≡ true → has_roles is_of_side is_side_sort (rule s) ≡ true
 side_roles sort.Term e = refl
 side_roles sort.Conjunction e = refl
 side_roles sort.Primary e = refl
@@ -81,6 +57,7 @@ side_roles sort.Unequal e = refl
 side_roles sort.Parentheses e = refl
 side_roles sort.Arguments e = refl
 side_roles sort.Subscript e = refl
+side_roles sort.RightSide e = refl
 side_roles s e = absurd (both_ways false refl e)
 
 side_inside : (u : Use Role) → is_of_side u.role ≡ true → IsInside u
@@ -130,8 +107,8 @@ module _ (below : Sort → Relation Role Tree) (room : Bool) where
   record IsQuery (v : Tree) (us : Uses) : Type 0 where
     binders : Tree
     left : Tree
-    atoms : List Tree
-    is : Node Correspondence binders (Node Cons left (chain atoms)) ≡ v
+    right : Tree
+    is : Node Correspondence binders (Node Cons left right) ≡ v
     bound : Uses
     used : Uses
     split : us ≡ bound ++ used
@@ -139,7 +116,7 @@ module _ (below : Sort → Relation Role Tree) (room : Bool) where
     middle : List Sign
     end : List Sign
     first : Spelled below room binding_part start binders bound middle
-    second : Spelled below room sides middle (left, atoms) used end
+    second : Spelled below room sides middle (left, right) used end
 
   is_query : (ts : List Sign) (v : Tree) (us : Uses) (rest : List Sign) → Spelled below room correspondence ts v us rest → IsQuery v us
   is_query ts v us rest d =
@@ -147,7 +124,7 @@ module _ (below : Sort → Relation Role Tree) (room : Bool) where
       record {
         binders = d.0.0;
         left = d.0.1.0;
-        atoms = d.0.1.1;
+        right = d.0.1.1;
         is = d.2;
         bound = k.front;
         used = k.back;
@@ -210,13 +187,13 @@ module _ (ts : List Sign) (ds : List Declaration) (s : Option (ℕ × ℕ)) (g :
   abbrev pub Known : Tree → ℕ → Type 0
   Known l x = (is_name_of (bound_names l) x ≡ true) ⊎ (is_used (declares_as AFunction) x W ≡ true)
 
-  -- a correspondence with its variables, and atoms over them and functions
+  -- a correspondence with its variables, and a right side over them and functions
   pub record IsNamedCorrespondence (t : Tree) : Type 0 where
     pub variables : List (ℕ × ℕ)
     pub left : Tree
-    pub atoms : List Tree
-    pub is : t ≡ Node Correspondence (binders variables) (Node Cons left (chain atoms))
-    pub over : AreAtomsOver (Known (binders variables)) atoms
+    pub right : Tree
+    pub is : t ≡ Node Correspondence (binders variables) (Node Cons left right)
+    pub over : AreAtomsOver (Known (binders variables)) right
 
   abbrev pub IsNamedQuery : Tree → Type 0
   IsNamedQuery t = IsNamedCorrespondence t ⊎ ((bs sides : Tree) → t ≡ Node Correspondence bs sides → ⊥)
@@ -238,8 +215,8 @@ module _ (ts : List Sign) (ds : List Declaration) (s : Option (ℕ × ℕ)) (g :
     binding : AreBinders below true w.binders w.bound
     binding = are_binders below true w.start w.binders w.bound w.middle w.first
 
-    side_used : AllUsed (IsIn is_of_side is_term_sort) w.used
-    side_used = form_uses is_of_side is_term_sort heads true below (sort_uses is_of_side is_term_sort heads rule side_roles levels) sides refl w.middle (w.left, w.atoms) w.used w.end w.second
+    side_used : AllUsed (IsIn is_of_side is_side_sort) w.used
+    side_used = form_uses is_of_side is_side_sort heads true below (sort_uses is_of_side is_side_sort heads rule side_roles levels) sides refl w.middle (w.left, w.right) w.used w.end w.second
 
     bound_inside : AllByRecursion IsInside w.bound
     bound_inside = all_inside is_of_binder binder_inside w.bound (form_uses is_of_binder no_sorts heads true below (λ s k. absurd (both_ways false refl k)) binding_part refl w.start w.binders w.bound w.middle w.first)
@@ -248,8 +225,8 @@ module _ (ts : List Sign) (ds : List Declaration) (s : Option (ℕ × ℕ)) (g :
       abbrev earlier : Uses
       earlier = before ++ enters n ∷ (w.bound ++ pre)
 
-      pre_used : AllUsed (IsIn is_of_side is_term_sort) pre
-      pre_used = AllByRecursion_left (λ (v : Use Role). is_of_side v.role ≡ true) pre (u ∷ post) (subst (AllUsed (IsIn is_of_side is_term_sort)) e side_used)
+      pre_used : AllUsed (IsIn is_of_side is_side_sort) pre
+      pre_used = AllByRecursion_left (λ (v : Use Role). is_of_side v.role ≡ true) pre (u ∷ post) (subst (AllUsed (IsIn is_of_side is_side_sort)) e side_used)
 
       inside : AllByRecursion IsInside (w.bound ++ pre)
       inside = AllByRecursion_append IsInside w.bound pre bound_inside (all_inside is_of_side side_inside pre pre_used)
@@ -282,19 +259,19 @@ module _ (ts : List Sign) (ds : List Declaration) (s : Option (ℕ × ℕ)) (g :
       mentioned : Mentioned (Known w.binders) u.role u.name
       mentioned = told u.role u.name (r.named earlier u (post ++ behind) use_split)
 
-    atoms_named : AreAtomsOver (Known w.binders) w.atoms
-    atoms_named =
-        (of_sides (Known w.binders)).gives (w.left, w.atoms)
-        (forms_tell (Mentioned (Known w.binders)) (OfTerms (Known w.binders)) heads rule (term_rows (Known w.binders)) sides levels w.middle (w.left, w.atoms) w.used w.end w.second
+    right_named : AreAtomsOver (Known w.binders) w.right
+    right_named =
+        (of_sides (Known w.binders)).gives (w.left, w.right)
+        (forms_tell (Mentioned (Known w.binders)) (OfTerms (Known w.binders)) heads rule (term_rows (Known w.binders)) sides levels w.middle (w.left, w.right) w.used w.end w.second
         (all_used (λ (u : Use Role). Mentioned (Known w.binders) u.role u.name) w.used mentioned))
 
     correspondence_named : IsNamedCorrespondence v
     correspondence_named = record {
       variables = binding.0;
       left = w.left;
-      atoms = w.atoms;
-      is = sym w.is ∙ ap (λ l. Node Correspondence l (Node Cons w.left (chain w.atoms))) binding.1;
-      over = subst (λ l. AreAtomsOver (Known l) w.atoms) binding.1 atoms_named;
+      right = w.right;
+      is = sym w.is ∙ ap (λ l. Node Correspondence l (Node Cons w.left w.right)) binding.1;
+      over = subst (λ l. AreAtomsOver (Known l) w.right) binding.1 right_named;
     }
 
   asked_named : (before behind : Uses) (b : List Declaration) (us : Uses) → W ≡ before ++ (us ++ behind) → IsAsked below true b us → AreNamedQueries b

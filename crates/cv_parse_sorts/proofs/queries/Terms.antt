@@ -1,18 +1,20 @@
--- The rows of terms make terms over the names that they mention, with indices behind each name that is read at some.
+-- The rows of terms make terms over the names that they mention, with indices behind each name that is read at some; and those of a
+-- query's right side make atoms over them.
 use Rattle.std.proofs.Common.{ℕ, [], ◌∷◌, List}
 use Rattle.std.specs.List.{AllByRecursion}
-use Rattle.cv_syntax_trees.specs.declared.head.Head.TheVariants.{Leaf, Read, Apply, Eq, And, Or, Not, Yes, No, Cons}
+use Rattle.cv_syntax_trees.specs.declared.head.Head.TheVariants.{Leaf, Read, Apply, Eq, And, Or, Not, Yes, No, Cons, Occurs, OccursOnce, SomeOf}
 use Rattle.cv_syntax_trees.specs.Tree.{Tree, Empty, Node, chain}
 use Rattle.cv_parse_notation.specs.Form.{Form}
 use Rattle.cv_parse_grammar.specs.declared.role.Role.{Role}
 use Rattle.cv_parse_grammar.specs.declared.role.Role.TheVariants.{Mentions}
+use Rattle.cv_parse_grammar.specs.Declarations.{alternative, bracketed_right_side, event, happens, right_item, right_side, some_of}
 use Rattle.cv_parse_grammar.specs.Phrases.{Sort}
 use Rattle.cv_parse_grammar.specs.Phrases as sort
 use Rattle.cv_parse_grammar.specs.Rules.{rule}
 use Rattle.cv_parse_grammar.specs.Terms.{terms, arguments, subscript, parentheses, called, indexed, alone, mention, negation, truth, falsehood, primary, unequal, equal_to, unequal_to, equality, conjoined, conjunction, disjoined, term}
 use Rattle.cv_parse_grammar.specs.yields.Yields.{Yields}
-use Rattle.cv_parse_grammar.proofs.yields.Yielding.{Gives, a_word, anything, behind, below, follow, leveled, one_of, perhaps, several, turned}
-use Rattle.cv_parse_laws.proofs.roles.Forms.{Tail, after_is, bracketed, squared}
+use Rattle.cv_parse_grammar.proofs.yields.Yielding.{Gives, a_word, anything, before, behind, below, follow, leveled, one_of, perhaps, several, turned, weaker}
+use Rattle.cv_parse_laws.proofs.roles.Forms.{Tail, after_is, bracketed, in_row, or_this, squared}
 use Rattle.cv_parse_sorts.proofs.EquationTerms.{IsSome}
 
 -- a term with bare names of L
@@ -34,6 +36,19 @@ abbrev mutual
   AreTermsOver L (Node Cons a b) = IsTermOver L a × AreTermsOver L b
   AreTermsOver L t = ⊥
 
+-- a right side with atoms over L, in every alternative
+
+abbrev pub IsAtomOver : (ℕ → Type 0) → Tree → Type 0
+IsAtomOver L (Node (Occurs e) ms b) = AreTermsOver L ms
+IsAtomOver L (Node (OccursOnce e) ms b) = AreTermsOver L ms
+IsAtomOver L m = IsTermOver L m
+
+abbrev pub AreAtomsOver : (ℕ → Type 0) → Tree → Type 0
+AreAtomsOver L Empty = Unit {0}
+AreAtomsOver L (Node Cons a b) = AreAtomsOver L a × AreAtomsOver L b
+AreAtomsOver L (Node SomeOf a b) = AreAtomsOver L a × AreAtomsOver L b
+AreAtomsOver L atom = IsAtomOver L atom
+
 module _ (L : ℕ → Type 0) where
   -- a name that is mentioned is one of them
   abbrev pub Mentioned : Role → ℕ → Type 0
@@ -51,6 +66,7 @@ module _ (L : ℕ → Type 0) where
   OfTerms sort.Parentheses t = IsTermOver L t
   OfTerms sort.Arguments t = AreSome t
   OfTerms sort.Subscript t = AreSome t
+  OfTerms sort.RightSide t = AreAtomsOver L t
   OfTerms s t = Unit {0}
 
   abbrev Makes : {A : Type 0} → Form Role Sort A → (A → Type 0) → Type 0
@@ -127,6 +143,43 @@ module _ (L : ℕ → Type 0) where
   pub of_term : Makes term (IsTermOver L)
   of_term = turned (follow of_conjunction (perhaps of_disjoined)) (λ x w. after_is (IsTermOver L) x.0 w.0 x.1 w.1)
 
+  -- right sides
+
+  of_happens : Makes happens (λ x. AreTermsOver L x.1)
+  of_happens = behind (weaker (follow anything (or_this Empty tt (weaker of_arguments (λ t w. w.0)))) (λ x w. w.1))
+
+  of_event : Makes event (AreAtomsOver L)
+  of_event = one_of (turned (behind of_happens) (λ x w. w)) (turned of_happens (λ x w. w))
+
+  one_term : (m : Tree) → IsTermOver L m → AreAtomsOver L m
+  one_term Empty w = absurd w
+  one_term (Node Cons a b) w = absurd w
+  one_term (Node SomeOf a b) w = absurd w
+  one_term (Node (Occurs e) ms b) w = absurd w
+  one_term (Node (OccursOnce e) ms b) w = absurd w
+  one_term (Node h a b) w = w
+
+  of_right_item : Makes right_item (AreAtomsOver L)
+  of_right_item = one_of below (one_of of_event (weaker of_equality one_term))
+
+  all_items : (l : List Tree) → AllByRecursion (AreAtomsOver L) l → AreAtomsOver L (chain l)
+  all_items [] w = tt
+  all_items (t ∷ l) w = (w.0, all_items l w.1)
+
+  of_alternative : Makes alternative (AreAtomsOver L)
+  of_alternative = turned (in_row of_right_item) all_items
+
+  all_alternatives : (l : List Tree) → AllByRecursion (AreAtomsOver L) l → AreAtomsOver L (some_of l)
+  all_alternatives [] w = tt
+  all_alternatives (t ∷ []) w = w.0
+  all_alternatives (t ∷ (u ∷ l)) w = (w.0, all_alternatives (u ∷ l) w.1)
+
+  pub of_right_side : Makes right_side (AreAtomsOver L)
+  of_right_side = turned (in_row of_alternative) all_alternatives
+
+  of_bracketed_right_side : Makes bracketed_right_side (AreAtomsOver L)
+  of_bracketed_right_side = leveled (behind (before of_right_side))
+
   pub term_rows : (s : Sort) (t : Tree) → Yields Mentioned OfTerms (rule s) t → OfTerms s t
   term_rows sort.Term t y = of_term.gives t y
   term_rows sort.Conjunction t y = of_conjunction.gives t y
@@ -135,4 +188,5 @@ module _ (L : ℕ → Type 0) where
   term_rows sort.Parentheses t y = of_parentheses.gives t y
   term_rows sort.Arguments t y = of_arguments.gives t y
   term_rows sort.Subscript t y = of_subscript.gives t y
+  term_rows sort.RightSide t y = of_bracketed_right_side.gives t y
   term_rows s t y = tt

@@ -60,6 +60,7 @@ found script.OtherFact = refl
 found script.OtherHere = refl
 found script.Same = refl
 found script.Late = refl
+found script.Alt = refl
 
 -- what is found among words passes the test
 passes_at : (b : Bool) (text : List ℕ) (k w : ScriptWord) (rest : Option ScriptWord) → is_word_spelled text k ≡ b → (rest ≡ Some w → is_word_spelled text w ≡ true) → cond b (Some k) rest ≡ Some w → is_word_spelled text w ≡ true

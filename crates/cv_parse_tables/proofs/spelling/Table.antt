@@ -3,10 +3,10 @@ use Rattle.std.proofs.Common.{◌≡◌, ℕ, List, [], ◌∷◌, Option, Some,
 use Rattle.std.proofs.lemmas.Slice.Eq.{bytes_eq-Decides}
 use Rattle.cv_parse_notation.specs.declared.sign.Mark.{Mark}
 use Rattle.cv_parse_notation.specs.declared.sign.Mark.TheVariants as mark
-use Rattle.cv_parse_tables.specs.spelling.Spelling.{spelling, marks, is_spelled, mark_of_text}
+use Rattle.cv_parse_tables.specs.spelling.Spelling.{as_told, spelling, marks, is_spelled, mark_of_text}
 
 -- each mark is found by its text
-pub found : (m : Mark) → mark_of_text (spelling m) ≡ Some m
+pub found : (m : Mark) → mark_of_text (spelling m) ≡ Some (as_told m)
 unfolding mark_of_text
 found mark.Proof = refl
 found mark.Process = refl
@@ -68,6 +68,7 @@ found mark.Implies = refl
 found mark.Arrow = refl
 found mark.Both = refl
 found mark.Either = refl
+found mark.OpenAtoms = refl
 
 -- `find` is no mark
 pub find_is_none : mark_of_text (codes "find") ≡ None

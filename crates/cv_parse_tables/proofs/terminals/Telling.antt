@@ -1,5 +1,5 @@
 -- The signs say what the tokens say, by the names in the end.
-use Rattle.std.proofs.Common.{◌≡◌, ℕ, zero, suc, ◌+◌, ◌<◌, ◌⊎◌, true, false, ◌&&◌, List, [], ◌∷◌, ◌++◌, length, get_or, Option, Some, None, refl, ap, sym, ◌∙◌, subst, arith, codes, inl, inr}
+use Rattle.std.proofs.Common.{◌≡◌, ℕ, zero, suc, ◌+◌, ◌<◌, ◌⊎◌, Bool, true, false, ◌&&◌, List, [], ◌∷◌, ◌++◌, length, get_or, Option, Some, None, refl, ap, sym, ◌∙◌, subst, arith, codes, inl, inr}
 use Rattle.std.specs.Prelude.{slice_get, All}
 use Rattle.std.specs.Str.{bytes_eq}
 use Rattle.std.proofs.lemmas.List.{length_push}
@@ -12,15 +12,21 @@ use Rattle.cv_lex.specs.View.{token_at, AreTokens}
 use Rattle.cv_lex.proofs.Pieces.{token_not_end}
 use Rattle.cv_parse_notation.specs.declared.script.ScriptWord.TheVariants.{Plain}
 use Rattle.cv_parse_notation.specs.declared.sign.Mark.{Mark}
+use Rattle.cv_parse_notation.specs.declared.sign.Mark.TheVariants as mark
 use Rattle.cv_parse_notation.specs.declared.sign.Sign.{Sign}
 use Rattle.cv_parse_notation.specs.declared.sign.Sign.TheVariants as sign
 use Rattle.cv_pool.specs.names.Texts.{NoRepeat}
 use Rattle.cv_parse_tables.specs.declared.terminals.pass.Counts.{Counts}
-use Rattle.cv_parse_tables.specs.spelling.Spelling.{mark_of_text}
+use Rattle.cv_parse_tables.specs.declared.terminals.openings.Turn.{Turn}
+use Rattle.cv_parse_tables.specs.declared.terminals.openings.Turn.TheVariants.{Event, Period, Opening, Closing, Joining, Arrow, Other}
+use Rattle.cv_parse_tables.specs.declared.terminals.openings.Place.TheVariants.{Outside}
+use Rattle.cv_parse_tables.specs.spelling.Spelling.{mark_of_text, spelling}
+use Rattle.cv_parse_tables.specs.terminals.Openings.{turn_of, turn_of_mark, with_opening}
 use Rattle.cv_parse_tables.specs.terminals.Signs.{Step, Signed, no_counts, join, step_before, unnamed_name, is_unnamed, first_text, token_step, text_step, word_step, signs_from, signs_in, signs_of, place_of, Tells, TellInOrder, NumberBelow}
 use Rattle.cv_parse_tables.specs.terminals.Braces.{file_tokens}
 use Rattle.cv_parse_tables.proofs.terminals.FileTokens.{are_read, length_read_from}
 use Rattle.cv_parse_tables.proofs.spelling.Table.{only}
+use Rattle.cv_parse_tables.proofs.terminals.RightSides.{length_openings, told_at}
 use Rattle.cv_parse_tables.proofs.terminals.Naming.{text_test, with_name_keeps, with_name_has, with_name_apart}
 use Rattle.cv_parse_tables.proofs.terminals.Walk.{no_end_yet}
 
@@ -141,8 +147,35 @@ tell_from names counts (t ∷ ts) inner (suc k) h =
 tell_in : (ts : List Token) → AreTokens ts → TellInOrder (signs_in ts).names ts (signs_in ts).signs
 tell_in ts are = tell_from (codes "bool" ∷ []) no_counts ts (λ k h. no_end_yet ts are k h (token_at ts k).kind refl)
 
+-- both kinds of an opening parenthesis have one text
+
+opening_text : (m : Mark) → turn_of_mark m ≡ Opening → spelling m ≡ codes "("
+opening_text mark.Open e = refl
+opening_text mark.OpenAtoms e = refl
+opening_text m e = absurd (cc)
+
+told_tells : (names : List (List ℕ)) (t : Token) (right : Bool) (s : Sign) → Tells names t s → Tells names t (with_opening right (turn_of s) s)
+told_tells names t right (sign.Mark m) h = go right (turn_of_mark m) refl where
+  go : (r : Bool) (u : Turn) → turn_of_mark m ≡ u → Tells names t (with_opening r u (sign.Mark m))
+  go true Opening e = h ∙ opening_text m e
+  go false Opening e = h ∙ opening_text m e
+  go r Event e = h
+  go r Period e = h
+  go r Closing e = h
+  go r Joining e = h
+  go r Arrow e = h
+  go r Other e = h
+told_tells names t right (sign.Word n w) h = h
+told_tells names t right (sign.Number v) h = h
+told_tells names t right (sign.Find n) h = h
+told_tells names t right (sign.Unnamed n) h = h
+
 pub tell_all : (ts : List Token) → AreTokens ts → TellInOrder (signs_of ts).names (file_tokens ts) (signs_of ts).signs
-tell_all ts are = tell_in (file_tokens ts) (are_read ts are)
+tell_all ts are k h =
+    let us = file_tokens ts in
+    let x = tell_in us (are_read ts are) k h in
+    let y = told_at Outside (signs_in us).signs k x.0 x.1 in
+    (with_opening y.0 (turn_of x.0) x.0, y.1, told_tells (signs_in us).names (token_at us k) y.0 x.0 x.2)
 
 -- one name is none twice
 alone_apart : (text : List ℕ) → NoRepeat (text ∷ [])
@@ -175,7 +208,9 @@ count_in ts are =
     omega arith
 
 pub count_all : (ts : List Token) → AreTokens ts → length (signs_of ts).signs + 1 ≡ length ts
-count_all ts are = count_in (file_tokens ts) (are_read ts are) ∙ length_read_from 0 ts
+count_all ts are =
+    let us = file_tokens ts in
+    ap (λ n. n + 1) (length_openings Outside (signs_in us).signs) ∙ (count_in us (are_read ts are) ∙ length_read_from 0 ts)
 
 -- what a sign tells is among the names
 below_told : (names : List (List ℕ)) (t : Token) (s : Sign) → Tells names t s → NumberBelow (length names) s
@@ -185,13 +220,11 @@ below_told names t (sign.Find n) h = tt
 below_told names t (sign.Unnamed n) h = slice_get_within names n (unnamed_name h.1.0) h.1.2
 below_told names t (sign.Mark m) h = tt
 
-below_in : (ts : List Token) → AreTokens ts → All (NumberBelow (length (signs_in ts).names)) (signs_in ts).signs
-below_in ts are k d h =
-    let count = count_in ts are in
-    let told = tell_in ts are k (omega arith) in
-    let here : slice_get (signs_in ts).signs k ≡ Some (get_or (signs_in ts).signs k d) = slice_get-get_or (signs_in ts).signs k d h in
-    let same : told.0 ≡ get_or (signs_in ts).signs k d = cc (here, told.1) in
-    subst (NumberBelow (length (signs_in ts).names)) same (below_told (signs_in ts).names (token_at ts k) told.0 told.2)
-
 pub numbers_below : (ts : List Token) → AreTokens ts → All (NumberBelow (length (signs_of ts).names)) (signs_of ts).signs
-numbers_below ts are = below_in (file_tokens ts) (are_read ts are)
+numbers_below ts are k d h =
+    let count = count_all ts are in
+    let long = length_read_from 0 ts in
+    let told = tell_all ts are k (omega arith) in
+    let here : slice_get (signs_of ts).signs k ≡ Some (get_or (signs_of ts).signs k d) = slice_get-get_or (signs_of ts).signs k d h in
+    let same : told.0 ≡ get_or (signs_of ts).signs k d = cc (here, told.1) in
+    subst (NumberBelow (length (signs_of ts).names)) same (below_told (signs_of ts).names (token_at (file_tokens ts) k) told.0 told.2)

@@ -58,6 +58,7 @@ word_spelling script.OtherFact = codes "fact2"
 word_spelling script.OtherHere = codes "here2"
 word_spelling script.Same = codes "same"
 word_spelling script.Late = codes "late"
+word_spelling script.Alt = codes "alt"
 
 -- the words of scripts
 abbrev pub words : List ScriptWord
@@ -67,7 +68,7 @@ words =
     script.Crypto ∷ script.Success ∷ script.Simplify ∷ script.Events ∷ script.Never ∷ script.With ∷ script.Above ∷ script.Cell ∷ script.Holds ∷ script.Distinct ∷
     script.Pair ∷ script.Fact ∷ script.Here ∷ script.Of ∷ script.Site ∷ script.Refl ∷ script.Sym ∷ script.Trans ∷ script.Cong ∷ script.Mp ∷
     script.And ∷ script.Left ∷ script.Right ∷ script.Contra ∷ script.Exfalso ∷ script.Given ∷ script.Again ∷ script.OtherFact ∷ script.OtherHere ∷ script.Same ∷
-    script.Late ∷ []
+    script.Late ∷ script.Alt ∷ []
 
 -- a word has this text
 abbrev pub is_word_spelled : List ℕ → ScriptWord → Bool

@@ -66,8 +66,9 @@ spelling mark.Implies = codes "==>"
 spelling mark.Arrow = codes "->"
 spelling mark.Both = codes "&&"
 spelling mark.Either = codes "||"
+spelling mark.OpenAtoms = codes "("
 
--- the marks, the most frequent ones first
+-- the marks that a text tells, the most frequent ones first: of the two kinds of an opening parenthesis what follows tells
 abbrev pub marks : List Mark
 marks =
     mark.Comma ∷ mark.Open ∷ mark.Close ∷ mark.Semicolon ∷ mark.Colon ∷ mark.In ∷ mark.Out ∷ mark.New ∷ mark.Equal ∷ mark.Let ∷
@@ -84,3 +85,8 @@ is_spelled text m = bytes_eq (spelling m) text
 -- the mark with this text, if there is one
 unfoldable pub mark_of_text : List ℕ → Option Mark
 mark_of_text text = find (is_spelled text) marks
+
+-- the mark that its text tells
+abbrev pub as_told : Mark → Mark
+as_told mark.OpenAtoms = mark.Open
+as_told m = m

@@ -12,6 +12,7 @@ use Rattle.cv_parse_notation.specs.declared.sign.Sign.{Sign}
 use Rattle.cv_parse_notation.specs.declared.sign.Sign.TheVariants as sign
 use Rattle.cv_parse_tables.specs.declared.terminals.pass.Counts.{Counts}
 use Rattle.cv_parse_tables.specs.terminals.Braces.{file_tokens}
+use Rattle.cv_parse_tables.specs.terminals.Openings.{with_openings}
 use Rattle.cv_parse_tables.specs.spelling.Spelling.{spelling, mark_of_text}
 
 -- the place of a text among names, or their number where it isn't there
@@ -108,9 +109,13 @@ signs_from names counts (t ∷ ts) = go_on (λ n c. signs_from n c ts) (step_bef
 abbrev pub signs_in : List Token → Signed
 signs_in ts = signs_from (codes "bool" ∷ []) no_counts ts
 
+-- the parentheses that open right sides of queries are told from all others
+abbrev pub with_right_sides : Signed → Signed
+with_right_sides s = record { signs = with_openings s.signs; names = s.names }
+
 -- the signs of a file's tokens
 abbrev pub signs_of : List Token → Signed
-signs_of ts = signs_in (file_tokens ts)
+signs_of ts = with_right_sides (signs_in (file_tokens ts))
 
 -- A sign says what its token says; a number stands for the text at its place among the names. No name is a word of a script.
 abbrev pub Tells : List (List ℕ) → Token → Sign → Type 0

@@ -2,11 +2,11 @@
 
 ghost use Rattle.std.specs.Prelude.{◌≡◌, ℕ, List, Some, None, codes};
 ghost use Rattle.cv_parse_notation.specs.declared.sign.Mark.{Mark};
-ghost use Rattle.cv_parse_tables.specs.spelling.Spelling.{spelling, mark_of_text};
+ghost use Rattle.cv_parse_tables.specs.spelling.Spelling.{as_told, spelling, mark_of_text};
 
 use cv_parse_notation::Mark;
 
-// All marks, the most frequent ones first.
+// The marks that a text tells, the most frequent ones first.
 static MARKS: [Mark; 60] = [
     Mark::Comma,
     Mark::Open,
@@ -135,6 +135,7 @@ pub fn spelling(mark: Mark) -> &'static str
         Mark::Arrow => "->",
         Mark::Both => "&&",
         Mark::Either => "||",
+        Mark::OpenAtoms => "(",
     }
 }
 
@@ -146,9 +147,9 @@ pub fn spelled(text: &str) -> Option<Mark>
     MARKS.iter().copied().find(|mark| spelling(*mark) == text)
 }
 
-/// A mark is found by its text, and by no other.
+/// A mark is found by its text, and by no other; a parenthesis that opens a right side is found as any other.
 pub fn spelling_is_unique()
-    ensures found { (m : Mark) → mark_of_text (spelling m) ≡ Some m }
+    ensures found { (m : Mark) → mark_of_text (spelling m) ≡ Some (as_told m) }
     ensures only { (text : List ℕ) (m : Mark) → mark_of_text text ≡ Some m → spelling m ≡ text }
     ensures find_is_none { mark_of_text (codes "find") ≡ None }
 {}

@@ -8,7 +8,7 @@ ghost use Rattle.cv_parse_tables.specs.spelling.ScriptSpelling.{word_spelling, w
 use cv_parse_notation::ScriptWord;
 
 // The words of scripts.
-static WORDS: [ScriptWord; 51] = [
+static WORDS: [ScriptWord; 52] = [
     ScriptWord::Rename,
     ScriptWord::To,
     ScriptWord::Rewrite,
@@ -60,6 +60,7 @@ static WORDS: [ScriptWord; 51] = [
     ScriptWord::OtherHere,
     ScriptWord::Same,
     ScriptWord::Late,
+    ScriptWord::Alt,
 ];
 
 /// How a word of a script is written. A plain word has no text of its own.
@@ -119,6 +120,7 @@ pub fn word_spelling(word: ScriptWord) -> &'static str
         ScriptWord::OtherHere => "here2",
         ScriptWord::Same => "same",
         ScriptWord::Late => "late",
+        ScriptWord::Alt => "alt",
     }
 }
 

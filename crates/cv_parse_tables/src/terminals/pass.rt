@@ -5,12 +5,13 @@ ghost use Rattle.cv_lex.specs.Lexis.{Token};
 ghost use Rattle.cv_lex.specs.View.{AreTokens};
 ghost use Rattle.cv_pool.specs.names.Texts.{NoRepeat};
 ghost use Rattle.cv_parse_tables.specs.terminals.Braces.{file_tokens, opens, outside};
-ghost use Rattle.cv_parse_tables.specs.terminals.Signs.{place_of, with_name, step_before, token_step, text_step, unnamed_step, no_counts, signs_from, signs_in, signs_of, TellInOrder, NumberBelow};
+ghost use Rattle.cv_parse_tables.specs.terminals.Signs.{place_of, with_name, step_before, token_step, text_step, unnamed_step, no_counts, signs_from, signs_in, signs_of, with_right_sides, TellInOrder, NumberBelow};
 ghost use Rattle.cv_parse_tables.specs.spelling.Spelling.{mark_of_text};
 ghost use Rattle.cv_parse_tables.specs.terminals.Worked.{small, small_names};
 
 use crate::spelling::spelled;
 use crate::terminals::braces::{open_behind, read_token};
+use crate::terminals::openings::tell_openings;
 use cv_lex::{TokenKind, Tokens};
 use cv_parse_notation::{ScriptWord, Sign};
 use cv_syntax::{NameError, Names};
@@ -182,7 +183,9 @@ fn file_signs(alloc: Global, names: &mut Names, tokens: &Tokens) -> Result<Vec<S
 {
     let _tokens = tokens.len();
     number_of(names, "bool")?;
-    read_signs(alloc, names, tokens)
+    let mut signs = read_signs(alloc, names, tokens)?;
+    tell_openings(&mut signs);
+    Ok(signs)
 }
 
 /// The signs of a file's tokens, one for each but the end token. Takes time linear in the text.
@@ -243,6 +246,6 @@ pub fn file_names_stand_outside_braces()
     ensures names { (ts : List Token) → AreTokens ts
         → (signs_of ts).names ≡ (signs_in (outside ts)).names }
     ensures plain { (ts : List Token) → All (λ t. opens t.text ≡ false) ts
-        → signs_of ts ≡ signs_in ts }
+        → signs_of ts ≡ with_right_sides (signs_in ts) }
     ensures small { (signs_of small).names ≡ small_names }
 {}

@@ -97,6 +97,7 @@ sort_declares_none sort.BodyBranch = refl
 sort_declares_none sort.LeftFunction = refl
 sort_declares_none sort.RightFunction = refl
 sort_declares_none sort.RightRest = refl
+sort_declares_none sort.RightSide = refl
 sort_declares_none sort.Braces = refl
 
 abbrev pub Undeclaring : Sort → Run Tree
@@ -177,6 +178,7 @@ sort_is_outside sort.BodyBranch e = refl
 sort_is_outside sort.LeftFunction e = refl
 sort_is_outside sort.RightFunction e = refl
 sort_is_outside sort.RightRest e = refl
+sort_is_outside sort.RightSide e = refl
 sort_is_outside sort.Braces e = refl
 
 abbrev pub Outside : Sort → Run Tree

@@ -7,6 +7,7 @@ use Rattle.cv_syntax_trees.specs.Tree.{depth, size}
 use Rattle.cv_syntax.specs.PoolTrees.{tree_of}
 use Rattle.cv_parse_notation.specs.Reads.{read_sort}
 use Rattle.cv_parse_tables.specs.terminals.Braces.{read_from}
+use Rattle.cv_parse_tables.specs.terminals.Openings.{closings_before_event, openings_from}
 use Rattle.cv_parse_tables.specs.terminals.Signs.{signs_from, signs_of}
 use Rattle.cv_parse_tables.specs.spelling.Spelling.{mark_of_text}
 use Rattle.cv_parse_grammar.specs.Filled.{first_site, filled_at}
@@ -34,7 +35,7 @@ unfolding lexed read_from signs_from mark_of_text
 named = refl
 
 read : parsed 10000 (signs_of small_tokens).signs ≡ Ok small_content
-unfolding lexed read_from signs_from mark_of_text parsed read_sort first_site filled_at first_broken part_from own_from size depth tree_of tree_weight
+unfolding lexed read_from signs_from openings_from closings_before_event mark_of_text parsed read_sort first_site filled_at first_broken part_from own_from size depth tree_of tree_weight
 read = refl
 
 pub file : IsFileText 10000 small_file small_names small_content

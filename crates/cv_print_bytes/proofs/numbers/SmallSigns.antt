@@ -24,10 +24,12 @@ use Rattle.cv_parse_notation.specs.declared.script.ScriptWord.TheVariants.{Plain
 use Rattle.cv_parse_notation.specs.declared.sign.Mark.{Mark}
 use Rattle.cv_parse_notation.specs.declared.sign.Sign.{Sign}
 use Rattle.cv_parse_notation.specs.declared.sign.Sign.TheVariants as sign
+use Rattle.cv_parse_tables.specs.declared.terminals.openings.Place.TheVariants.{Outside}
 use Rattle.cv_parse_tables.specs.spelling.Spelling.{mark_of_text}
 use Rattle.cv_parse_tables.specs.terminals.Braces.{file_tokens}
 use Rattle.cv_parse_tables.proofs.terminals.FileTokens.{are_read, length_read_from}
 use Rattle.cv_parse_tables.specs.terminals.Signs.{NumberBelow, Step, first_text, is_unnamed, no_counts, one_find, place_of, with_name, signs_from, signs_in, signs_of, step_before, text_step, token_step, unnamed_step, word_step}
+use Rattle.cv_parse_tables.proofs.terminals.RightSides.{all_kept}
 use Rattle.cv_parse_tables.proofs.terminals.Telling.{bool_first, numbers_below}
 use Rattle.cv_parse_grammar.specs.Filled.{first_site}
 use Rattle.cv_parse_grammar.specs.Files.{levels}
@@ -158,7 +160,10 @@ pub signs_small : (bs : List ℕ) (ts : List Token) → Lexed 0 bs (Ok ts) → l
 signs_small bs ts w h =
     let q = tokens_of_text bs ts w in
     let r : AreTokens (file_tokens ts) = are_read ts q.are in
-    let labels : AllByRecursion (LabelFits (length r.front)) (signs_of ts).signs = subst (λ l. AllByRecursion (LabelFits (length r.front)) (signs_in l).signs) (sym r.all) (labels_from (length r.front) (codes "bool" ∷ []) (record { signs = []; names = []; counts = no_counts }) r.front r.end r.each (omega arith)) in
+    let labels : AllByRecursion (LabelFits (length r.front)) (signs_of ts).signs =
+    all_kept (LabelFits (length r.front)) tt tt Outside (signs_in (file_tokens ts)).signs
+    (subst (λ l. AllByRecursion (LabelFits (length r.front)) (signs_in l).signs) (sym r.all) (labels_from (length r.front) (codes "bool" ∷ []) (record { signs = []; names = []; counts = no_counts }) r.front r.end r.each (omega arith)))
+    in
     let long : length (file_tokens ts) ≡ length r.front + 1 = ap length r.all ∙ length_push r.front (end_token r.end) in
     let same = length_read_from 0 ts in
     let few = q.few in

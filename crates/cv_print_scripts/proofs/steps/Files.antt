@@ -10,7 +10,7 @@ use Rattle.cv_parse_notation.specs.Form.{sign, script_word, word, number, nought
 use Rattle.cv_parse_notation.specs.Spells.{Kind, AWord, kind_of, is_other, may_vanish, starts, starts_both, next_is, Relation, used, Perhaps, Each, Spells, IsSort, no_sort}
 use Rattle.cv_parse_grammar.specs.declared.role.Role.{Role}
 use Rattle.cv_parse_grammar.specs.Marks.{marked_rule}
-use Rattle.cv_parse_grammar.specs.Phrases.{Phrase, Sort, Term, Conjunction, Primary, Unequal, Arguments, Subscript, Parentheses, Inputs, Input, Output, Pattern, Sending, Payload, Variables, Indices, ProcessBranch, Cells, OneCell, Body, BodyBranch, LeftFunction, RightFunction, RightRest, Braces}
+use Rattle.cv_parse_grammar.specs.Phrases.{Phrase, Sort, Term, Conjunction, Primary, Unequal, Arguments, Subscript, Parentheses, Inputs, Input, Output, Pattern, Sending, Payload, Variables, Indices, ProcessBranch, Cells, OneCell, Body, BodyBranch, LeftFunction, RightFunction, RightRest, RightSide, Braces}
 use Rattle.cv_parse_grammar.specs.Names.{Uses}
 use Rattle.cv_parse_grammar.specs.Rules.{heads, rule}
 use Rattle.cv_parse_tables.specs.declared.piece.Outer.{Outer}
@@ -54,6 +54,7 @@ rules_are_quiet BodyBranch = refl
 rules_are_quiet LeftFunction = refl
 rules_are_quiet RightFunction = refl
 rules_are_quiet RightRest = refl
+rules_are_quiet RightSide = refl
 rules_are_quiet Braces = refl
 
 marked_rules_are_quiet : (s : Sort) → is_quiet (marked_rule s) ≡ true
@@ -80,6 +81,7 @@ marked_rules_are_quiet BodyBranch = refl
 marked_rules_are_quiet LeftFunction = refl
 marked_rules_are_quiet RightFunction = refl
 marked_rules_are_quiet RightRest = refl
+marked_rules_are_quiet RightSide = refl
 marked_rules_are_quiet Braces = refl
 
 -- it begins with any identifier or with none

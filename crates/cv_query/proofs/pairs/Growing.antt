@@ -1,9 +1,9 @@
 -- A pool that grows: the scene of a game stays as it was, and so does what was looked up in it.
-use Rattle.std.proofs.Common.{◌≡◌, ℕ, zero, suc, ◌<◌, ◌≤◌, ◌^◌, ◌⊎◌, inl, inr, List, [], ◌∷◌, ◌++◌, length, take, Bool, true, false, if◌then◌else◌, nat_lt, refl, sym, ap, ap₂, subst, ◌∙◌, arith, All, Option, Some, None}
-use Rattle.std.specs.Prelude.{◌==◌, IfSome, option_map, slice_index_or}
+use Rattle.std.proofs.Common.{◌≡◌, ℕ, zero, suc, ◌<◌, ◌≤◌, ◌^◌, ◌⊎◌, inl, inr, List, [], ◌∷◌, ◌++◌, length, Bool, true, false, if◌then◌else◌, nat_lt, refl, sym, ap, ap₂, subst, ◌∙◌, arith, All, Option, Some, None}
+use Rattle.std.specs.Prelude.{◌==◌, option_map, slice_index_or}
 use Rattle.std.specs.List.{AllByRecursion}
 use Rattle.std.proofs.Math.Path.{fun_ext}
-use Rattle.std.proofs.lemmas.List.{get_or_past, take_all}
+use Rattle.std.proofs.lemmas.List.{get_or_past}
 use Rattle.cv_lists.proofs.Numbers.{below_or_not}
 use Rattle.cv_lists.proofs.Options.{IfSome_weaker}
 use Rattle.cv_pool.specs.declared.node.NodeId.{NodeId}
@@ -31,7 +31,7 @@ use Rattle.cv_directory_sorts.specs.declared.sort.Sort.{Sort}
 use Rattle.cv_directory_sorts.specs.declared.sort.Sort.TheVariants.{BelowParameter, OfType}
 use Rattle.cv_scope_rules.specs.Phrases.{IsWellFormed}
 use Rattle.cv_typing.specs.declared.arrays.Arrays.{Arrays}
-use Rattle.cv_typing.specs.Tables.{arrays_of, directory_in}
+use Rattle.cv_typing.specs.Tables.{directory_in}
 use Rattle.cv_scope_rules.specs.typing.Signature.{OfGame}
 use Rattle.cv_directory_sorts.specs.Sites.{sites_of}
 use Rattle.cv_scene.specs.Scenes.{Scene}

@@ -1,9 +1,8 @@
 -- The test of a pair, by the lists that are made for it.
-use Rattle.std.proofs.Common.{◌≡◌, ℕ, ◌+◌, ◌<◌, ◌≤◌, ◌^◌, Bool, true, false, ◌&&◌, not, List, [], ◌∷◌, ◌++◌, nat_lt, ltb-true, refl, sym, ap, ap₂, ◌∙◌, arith, map, Option, Some, None}
+use Rattle.std.proofs.Common.{◌≡◌, ℕ, ◌+◌, ◌<◌, ◌^◌, Bool, true, false, ◌&&◌, List, [], ◌∷◌, ◌++◌, nat_lt, ltb-true, refl, sym, ap, ap₂, ◌∙◌, arith, map, Option, Some}
 use Rattle.std.specs.Prelude.{if◌then◌else◌}
 use Rattle.cv_lists.specs.Options.{first_of}
 use Rattle.cv_pool.specs.KindTree.{KindTree}
-use Rattle.cv_syntax_trees.specs.declared.head.Head.{Head}
 use Rattle.cv_syntax_trees.specs.declared.head.Head.TheVariants as head
 use Rattle.cv_syntax_trees.specs.Tree.{Tree, Empty, Node, chain, size}
 use Rattle.cv_syntax.specs.PoolTrees.{tree_at}
@@ -14,7 +13,7 @@ use Rattle.cv_scene.specs.Late.{index_term}
 use Rattle.cv_scene.specs.lines.Inferences.{Visible}
 use Rattle.cv_scene.specs.lines.Lines.{By, Cases, End, Holds, IsDefined, Lines, Statement, count, lines_of}
 use Rattle.cv_scene.specs.Pairs.{all_of_second, pair_at, second_indices}
-use Rattle.cv_scene.specs.Reasons.{has_reason, is_reason, is_right}
+use Rattle.cv_scene.specs.Reasons.{is_reason, is_right}
 use Rattle.cv_scene.specs.Scenes.{Scene}
 use Rattle.cv_scene.specs.Sights.{Pair, Sight, cells_by, facts_by, is_typed}
 use Rattle.cv_scene.specs.Terms.{replications_at}
@@ -24,7 +23,7 @@ use Rattle.cv_query_certificates.specs.PairParts.{ends_pair, proves_pair}
 use Rattle.cv_query_parts.specs.Countable.{IsCountable}
 use Rattle.cv_query_parts.specs.declared.pairs.walk.Pairing.{Pairing}
 use Rattle.cv_query_parts.specs.pairs.Lists.{lists_of}
-use Rattle.cv_query_parts.specs.pairs.Walks.{first_unproved, needed_of}
+use Rattle.cv_query_parts.specs.pairs.Walks.{needed_of}
 use Rattle.cv_query_parts.proofs.pairs.Meeting.{past_replications}
 use Rattle.cv_query.specs.declared.pairs.ends.Ends.{Ends}
 use Rattle.cv_query.specs.pairs.Proved.{has_end, has_right_lines, is_proved, near}

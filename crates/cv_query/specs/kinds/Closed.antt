@@ -1,7 +1,7 @@
 -- The right side of a query says something of functions, of constants and of the query's own variables alone. This profile's own.
 use Rattle.std.specs.Prelude.{◌≡◌, ◌⊎◌, ℕ, true, List}
 use Rattle.std.specs.List.{AllByRecursion}
-use Rattle.cv_syntax_trees.specs.declared.head.Head.TheVariants.{Occurs, OccursOnce, Query}
+use Rattle.cv_syntax_trees.specs.declared.head.Head.TheVariants.{Cons, Occurs, OccursOnce, Query, SomeOf}
 use Rattle.cv_syntax_trees.specs.Declarations.{Declaration}
 use Rattle.cv_syntax_trees.specs.Tree.{Tree, Empty, Node, bound_names}
 use Rattle.cv_meaning.specs.Interpretation.{is_constant_of}
@@ -18,13 +18,16 @@ IsClosedAtom L (Node (Occurs e) ms b) = AreOver L ⊥ ms
 IsClosedAtom L (Node (OccursOnce e) ms b) = AreOver L ⊥ ms
 IsClosedAtom L m = IsOver L ⊥ m
 
+-- so does each one of a right side, in every alternative
 abbrev pub AreClosedAtoms : (ℕ → Type 0) → Tree → Type 0
 AreClosedAtoms L Empty = Unit {0}
-AreClosedAtoms L (Node h atom more) = IsClosedAtom L atom × AreClosedAtoms L more
+AreClosedAtoms L (Node Cons a b) = AreClosedAtoms L a × AreClosedAtoms L b
+AreClosedAtoms L (Node SomeOf a b) = AreClosedAtoms L a × AreClosedAtoms L b
+AreClosedAtoms L atom = IsClosedAtom L atom
 
 -- so it is with a correspondence
 abbrev pub IsClosedQuery : List Declaration → Tree → Type 0
-IsClosedQuery ds (Node Query bs (Node h left atoms)) = AreClosedAtoms (IsKnown ds (bound_names bs)) atoms
+IsClosedQuery ds (Node Query bs (Node h left right)) = AreClosedAtoms (IsKnown ds (bound_names bs)) right
 IsClosedQuery ds query = Unit {0}
 
 -- and with each one of a file

@@ -6,8 +6,8 @@ ghost use Rattle.cv_scene_view.specs.Kept.{scene_of};
 ghost use Rattle.cv_query_certificates.specs.PairParts as parts;
 ghost use Rattle.cv_query_certificates.specs.Secrets as secrets;
 
-use crate::offences::first_definition;
 use cv_costs::first_other_site;
+use cv_query_offences::first_definition;
 use cv_syntax::{NodeId, Work};
 
 /// Whether a variable is one of these.

@@ -127,7 +127,7 @@ fn made_at(pool: &Pool, root: NodeId) -> Made
 }
 
 /// Whether a pair at two places is derived, by the lists that were made for it.
-fn is_proved(
+pub(crate) fn is_proved(
     alloc: Global,
     work: &Work,
     game: NodeId,

@@ -19,4 +19,7 @@ pub returns-clause-copied : goal.returns-clause-copied
 returns-clause-copied c = λ a. some_none _ (sym secrets_judged.1.1.1.1.0.0 ∙ (c.accepted_exactly_where_nothing_fails.ensures _ _ _ refl).0 a)
 
 pub returns-clause-once : goal.returns-clause-once
-returns-clause-once c = record { built = refl; proof = inr copies_unread }
+returns-clause-once c = record { proof = inr copies_unread }
+
+pub returns-clause-paired : goal.returns-clause-paired
+returns-clause-paired c = (c.accepted_exactly_where_nothing_fails.ensures _ _ _ refl).1 secrets_judged.1.1.1.1.1.0.0

@@ -1,9 +1,9 @@
 -- What trees with terms for names are, node by node.
-use Rattle.std.proofs.Common.{◌≡◌, ℕ, false, List, [], ◌∷◌, None, refl, ap, ap₂, ◌∙◌}
+use Rattle.std.proofs.Common.{◌≡◌, false, refl, ap₂, ◌∙◌}
 use Rattle.cv_syntax_trees.specs.declared.head.Head.{Head}
 use Rattle.cv_syntax_trees.specs.Tree.{Tree, Empty, Node, same_tree}
 use Rattle.cv_syntax.proofs.Trees.{same_open, tree_of_NoTree}
-use Rattle.cv_scene.specs.lines.Given.{or_node, term_for}
+use Rattle.cv_scene.specs.lines.Given.{or_node}
 use Rattle.cv_query_entries.specs.terms.Given.{Terms, given_by, put}
 
 pub put_empty : (f : Terms) → put f Empty ≡ Empty

@@ -104,24 +104,24 @@ fn is_new_in(first: &HashSet<u32>, second: &HashSet<u32>, x: u32) -> bool
     second.contains(&x) && !first.contains(&x)
 }
 
-/// The variables of a query with their types that its atoms read and that are no argument of the left event.
+/// The variables of a query with their types that its right side reads and that are no argument of the left event.
 #[tactic(auto, using(crate::proofs::terms::Reading::reading))]
 pub fn right_alone(
     alloc: Global,
     pool: &Pool,
     binders: Option<NodeId>,
     variables: Option<NodeId>,
-    atoms: Option<NodeId>,
+    right: Option<NodeId>,
 ) -> Result<Vec<(u32, u32)>, AllocError>
     requires binders { ChildBelow (length pool.now.trees) binders }
     requires variables { ChildBelow (length pool.now.trees) variables }
-    requires atoms { ChildBelow (length pool.now.trees) atoms }
+    requires right { ChildBelow (length pool.now.trees) right }
     ensures { IfOk result (λ found. found.items
         ≡ on_the_right_alone (tree_at pool.now.trees binders)
-        (leaf_names (tree_at pool.now.trees variables)) (tree_at pool.now.trees atoms)) }
+        (leaf_names (tree_at pool.now.trees variables)) (tree_at pool.now.trees right)) }
 {
     let on_the_left = leaves_of(alloc, pool, variables)?;
-    let on_the_right = reads_of(alloc, pool, atoms)?;
+    let on_the_right = reads_of(alloc, pool, right)?;
     let mut found = Vec::new(alloc);
     let mut at = binders;
     'binders: while let Some(n) = at {

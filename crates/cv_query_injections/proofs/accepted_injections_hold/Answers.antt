@@ -7,7 +7,6 @@ use Rattle.cv_meaning.specs.Tapes.{blank}
 use Rattle.cv_meaning.specs.Cells.{cells}
 use Rattle.cv_meaning_laws.specs.adequacy.Counted.{tapes_of}
 use Rattle.std.specs.Prelude.{get_or}
-use Rattle.cv_query_laws.proofs.correspondences.Closing.{built_list}
 use Rattle.cv_query_injections.proofs.matching.Kept.{kept}
 use Rattle.cv_query_injections.proofs.accepted_injections_hold.Goals as goal
 
@@ -24,4 +23,4 @@ returns c = λ s query certificate proved inj i model a k d l.
     (c.visited_copies_stay_reached.ensures s proved.ready i model Events a k d l)
     (c.derivations_of_visited_copies_hold.ensures s proved.ready i model Events a k d l)
     (proved.sound.places s refl proved.ready i model Events a k d l)
-    (λ place entry z. c.entries_are_met_by_visits.ensures s query proved.ready proved.sound proved.correspondence (built_list query certificate proved.correspondence proved.accepted.built) proved.closed i model a place entry z k d l)
+    (λ place entry z. c.entries_are_met_by_visits.ensures s query proved.ready proved.sound proved.correspondence proved.closed i model a place entry z k d l)

@@ -1,5 +1,5 @@
 -- The choice under which each left event has its right events: where the routes of its entry lead to.
-use Rattle.std.proofs.Common.{◌≡◌, ℕ, zero, suc, ◌+◌, ◌<◌, ◌≤◌, Bool, true, false, cond, ◌==◌, nat_lt, ltb-true, ltb-false, List, [], ◌∷◌, length, ◌⊎◌, inl, inr, Option, Some, None, refl, sym, ap, subst, ◌∙◌, arith, eqb-true, eq-eqb}
+use Rattle.std.proofs.Common.{◌≡◌, ℕ, zero, suc, ◌<◌, ◌≤◌, Bool, true, false, cond, ◌==◌, nat_lt, ltb-true, ltb-false, List, [], ◌∷◌, length, ◌⊎◌, inl, inr, Option, Some, None, is_some, refl, sym, ap, subst, ◌∙◌, arith, eqb-true, eq-eqb}
 use Rattle.std.specs.Prelude.{Contains, slice_get}
 use Rattle.std.proofs.lemmas.Bool.{and_parts, both_ways}
 use Rattle.std.proofs.lemmas.List.Elements.{Contains-append_left, Contains-append_right}
@@ -16,8 +16,9 @@ use Rattle.cv_meaning.specs.Tapes.{Tape}
 use Rattle.cv_meaning.specs.Runs.{Adversary, Events}
 use Rattle.cv_meaning.specs.Experiments.{run, visits_of_run}
 use Rattle.cv_meaning.specs.Serving.{Visit}
-use Rattle.cv_meaning.specs.Correspondences.{Atom, Correspondence, RightEvent, RightTerm, numbered}
-use Rattle.cv_meaning_laws.specs.adequacy.Broken.{AreValues, Choice, HasMatching, HoldsWith, IsLeftAt, StandsAt, query_values, right_event}
+use Rattle.cv_meaning.specs.Correspondences.{Atom, Correspondence, RightEvent, RightTerm}
+use Rattle.cv_query_certificates.specs.Alternatives.{chosen}
+use Rattle.cv_meaning_laws.specs.adequacy.Broken.{AreValues, Choice, HasMatching, HoldsWith, IsLeftAt, IsMarkedAt, StandsAt, query_values, right_event}
 use Rattle.cv_meaning_runs.specs.Placed.{IsSubtreeOrList, VisitHas}
 use Rattle.cv_meaning_runs.proofs.Placed.{visits_subtrees}
 use Rattle.cv_scope_rules.specs.Above.{stands_at}
@@ -36,25 +37,23 @@ use Rattle.cv_derive_laws.specs.stores.Holding.{HoldAtVisit, IsReady}
 use Rattle.cv_derive_laws.specs.stores.Truth.{AreApart, IsTrue}
 use Rattle.cv_derive_laws.proofs.reached.Targets.{ends_hold}
 use Rattle.cv_query_certificates.specs.Accepted.{AreParts, IsEntry, Proves}
-use Rattle.cv_query_certificates.specs.Alternatives.{first_of_alternatives, only_atoms}
 use Rattle.cv_query_certificates.specs.Claims.{at_place}
 use Rattle.cv_query_certificates.specs.EventNodes.{are_for, arguments_at}
 use Rattle.cv_query_certificates.specs.Forms.{have_types, is_number, left_places}
 use Rattle.cv_query_certificates.specs.Marks.{raise_of}
 use Rattle.cv_query_certificates.specs.PairParts.{behind_entries, distinct_in}
-use Rattle.cv_query_certificates.specs.Pairs.{needed_among, needed_pairs, routes_in}
+use Rattle.cv_query_certificates.specs.Pairs.{ends_in, needed_among, needed_pairs}
 use Rattle.cv_scene.specs.Sights.{sight_at}
 use Rattle.cv_query_laws.specs.correspondences.Happenings.{happening, happening_at}
-use Rattle.cv_query_laws.specs.routes.Ends.{AreMetBy, IsExecuted, IsMetBy, item_at, route_place, route_tuple, routes_of, witnesses_of}
+use Rattle.cv_query_laws.specs.routes.Ends.{AreMetBy, IsExecuted, IsMetBy, choice_of, entry_atoms, entry_routes, item_at, route_place, route_tuple, witnesses_of}
 use Rattle.cv_query_laws.specs.visits.Visited.{IsFront}
 use Rattle.cv_query_laws.specs.visits.Events.{event_visits}
 use Rattle.cv_query_laws.proofs.correspondences.Behind.{IsAmong, place_among}
-use Rattle.cv_query_laws.proofs.correspondences.Meeting.{atom_at}
 use Rattle.cv_query_laws.proofs.routes.Executed.{holds_at}
 use Rattle.cv_query_laws.proofs.visits.OneBody.{visit_long}
 use Rattle.cv_query_laws.proofs.visits.Positions.{event_position, visit_stands}
 use Rattle.cv_query_secrets.proofs.names.Ends.{raised_above}
-use Rattle.cv_query_injections.proofs.places.Entered.{IsRouted, Kind, among_needed, entry_at, entry_stands, game_ascends, is_needed, kind_of, never, routed}
+use Rattle.cv_query_injections.proofs.places.Entered.{IsRouted, Kind, among_needed, end_among, entry_at, entry_ends, entry_stands, game_ascends, is_needed, kind_of, never, routed}
 use Rattle.cv_query_injections.proofs.matching.Ended.{RouteEnds, route_at, route_ends}
 use Rattle.cv_query_injections.proofs.matching.Told.{no_false, pair_proved, told}
 
@@ -63,11 +62,11 @@ slice_contains [] n x e = absurd (none_some x e)
 slice_contains (y ∷ xs) zero x e = Contains-append_left (y ∷ []) xs x (0, omega arith, some_injective e)
 slice_contains (y ∷ xs) (suc n) x e = Contains-append_right (y ∷ []) xs x (slice_contains xs n x e)
 
--- an atom of a list has the number of its place
-numbered_at : (c : ℕ) (cs : List Atom) (k n : ℕ) (atom : Atom) → StandsAt (numbered c cs) k (n, atom) → n ≡ c + k
-numbered_at c [] k n atom e = absurd (none_some (n, atom) e)
-numbered_at c (d ∷ cs) zero n atom e = let same : c ≡ n = ap (λ (z : ℕ × Atom). z.0) (some_injective e) in omega arith
-numbered_at c (d ∷ cs) (suc k) n atom e = let same : n ≡ suc c + k = numbered_at (suc c) cs k n atom e in omega arith
+no_term : (h c f : ℕ) (ms b : Tree) → ◌≡◌ {A = Option (ℕ × Atom)} (Some (h, RightTerm b)) (Some (c, RightEvent true f ms)) → ⊥
+no_term h c f ms b e = other (ap (λ (d : ℕ × Atom). d.1) (some_injective e))
+  where
+    other : RightTerm b ≡ RightEvent true f ms → ⊥
+    other e = cc
 
 -- the visit of a left event
 
@@ -129,7 +128,7 @@ module _ (s : Scene) (i : Interpretation) (q : Correspondence) (a : Adversary) (
       go m among b is x placed = absurd (no_event e x)
 
 module _ (s : Scene) (ready : IsReady s.declarations s.game) (i : Interpretation) (model : Satisfies s.declarations i) (names : (p : ℕ) (Γ : Context) → stands_at s.game p ≡ Some Γ → IsFine s.declarations s.game Γ) (behind : (y : ℕ) → AllByRecursion (IsBehind s.game) (sites_of s.game y))
-    (q : Correspondence) (inj : q.inj ≡ true) (atoms : List Atom) (only : q.alternatives ≡ numbered 1 atoms ∷ []) (parts : Tree) (accepted : AreParts s q (left_places s q) parts) (a : Adversary) (t : Tape)
+    (q : Correspondence) (inj : q.inj ≡ true) (parts : Tree) (accepted : AreParts s q (left_places s q) parts) (a : Adversary) (t : Tape)
     (reached : AreReachedInPairs s i (run (setting_of s.declarations i) Events a s.game t).memory (visits_of_run (setting_of s.declarations i) Events a s.game t))
     (hold : HoldInPairs s i (run (setting_of s.declarations i) Events a s.game t).memory (visits_of_run (setting_of s.declarations i) Events a s.game t))
     (derives : AllByRecursion (HoldAtVisit s i) (visits_of_run (setting_of s.declarations i) Events a s.game t))
@@ -173,34 +172,46 @@ module _ (s : Scene) (ready : IsReady s.declarations s.game) (i : Interpretation
       no_false (g s i q a t) l.visit.before.indices l.visit.before.memory.store
       (ends_hold (IsTrue (g s i q a t) l.visit.before.indices l.visit.before.memory.store l.visit.before.memory.store) (statements (lines_of by)) (statements (lines_of falsity)) d.end ((holds_here n e l l.counts).0 by d.right)).0
 
-  routes_here : (n : ℕ) (e : Happened) (l : Left n e) → (routes : Tree) × IsRouted (entry l.visit.place) l.visit.place routes
+  routes_here : (n : ℕ) (e : Happened) (l : Left n e) → IsRouted (entry l.visit.place) l.visit.place
   routes_here n e l = go (kind_of s q l.visit.place (entry l.visit.place) (entered n e l))
     where
-      go : Kind l.visit.place (entry l.visit.place) → (routes : Tree) × IsRouted (entry l.visit.place) l.visit.place routes
+      go : Kind l.visit.place (entry l.visit.place) → IsRouted (entry l.visit.place) l.visit.place
       go (never number by f is) = absurd (not_never n e l number by f is)
-      go (routed routes r) = (routes, r)
+      go (routed r) = r
+
+  -- the atoms of its alternative, with their routes
+
+  abbrev atoms_at : (place : ℕ) → List (ℕ × Atom)
+  atoms_at p = entry_atoms q (entry p)
+
+  abbrev route : (place number : ℕ) → Tree
+  route p m = item_at (entry_routes (entry p)) m
 
   -- where the route of an atom ends
-  ends_here : (n : ℕ) (e : Happened) (l : Left n e) (routes : Tree) → IsRouted (entry l.visit.place) l.visit.place routes → (m : ℕ) (mark : Bool) (f : ℕ) (ms : Tree) → StandsAt (only_atoms q) m (RightEvent mark f ms) → (u : List ℕ)
-      → IsFront u (route_tuple (g s i q a t) l.visit.before (item_at routes m)) → length u ≡ length (replications_at s (route_place (item_at routes m))) → RouteEnds s i l.visit.place l.visit.before.indices last.store (item_at routes m) u
-  ends_here n e l routes r m mark f ms at u front long =
-      let z : IsEntry s q l.visit.place (Node AtEntry r.number (Node WithEntry r.witnesses routes)) = subst (IsEntry s q l.visit.place) r.is (entered n e l) in
+  ends_here : (n : ℕ) (e : Happened) (l : Left n e) (m c : ℕ) (mark : Bool) (f : ℕ) (ms : Tree) → StandsAt (atoms_at l.visit.place) m (c, RightEvent mark f ms) → (u : List ℕ)
+      → IsFront u (route_tuple (g s i q a t) l.visit.before (route l.visit.place m)) → length u ≡ length (replications_at s (route_place (route l.visit.place m))) → RouteEnds s i l.visit.place l.visit.before.indices last.store (route l.visit.place m) u
+  ends_here n e l m c mark f ms at u front long =
+      let r = routes_here n e l in
+      let z : IsEntry s q l.visit.place (Node AtEntry r.number (Node WithEntry r.witnesses (choice_of (entry l.visit.place)))) = subst (IsEntry s q l.visit.place) r.is (entered n e l) in
       let b = and_parts (is_number l.visit.place r.number) _ z.form in
       let c = and_parts (are_for q.variables (arguments_at s.game l.visit.place)) _ b.1 in
       let d = and_parts (have_types (sight_at s l.visit.place) q.others r.witnesses) _ c.1 in
-      let o = route_at s l.visit.place (at_place s q l.visit.place r.witnesses) (only_atoms q) routes d.1 z.claims m (RightEvent mark f ms) at in
-      route_ends s ready i names behind a t l.number l.visit l.among l.counts (holds_here n e l) u (at_place s q l.visit.place r.witnesses) mark f ms (item_at routes m) o.0 o.1 front long
+      let h = and_parts (is_some (chosen q.alternatives (choice_of (entry l.visit.place)))) _ d.1 in
+      let o = route_at s l.visit.place (at_place s q l.visit.place r.witnesses) (atoms_at l.visit.place) (entry_routes (entry l.visit.place)) h.1 z.claims m _ at in
+      route_ends s ready i names behind a t l.number l.visit l.among l.counts (holds_here n e l) u (at_place s q l.visit.place r.witnesses) mark f ms (route l.visit.place m) o.0 o.1 front long
 
   -- two left events that have a right event of one atom at one position
 
-  module _ (n j : ℕ) (d e : Happened) (v : Left n d) (w : Left j e) (routes others : Tree) (r : IsRouted (entry v.visit.place) v.visit.place routes) (o : IsRouted (entry w.visit.place) w.visit.place others) (m f : ℕ) (ms : Tree) (at : StandsAt (only_atoms q) m (RightEvent true f ms)) where
-    one_left : v.visit.place ≤ w.visit.place → (u : List ℕ) → RouteEnds s i v.visit.place v.visit.before.indices last.store (item_at routes m) u → RouteEnds s i w.visit.place w.visit.before.indices last.store (item_at others m) u
-        → route_place (item_at routes m) ≡ route_place (item_at others m) → n ≡ j
+  module _ (n j : ℕ) (d e : Happened) (v : Left n d) (w : Left j e) (m b c f h : ℕ) (ms ns : Tree) (at : StandsAt (atoms_at v.visit.place) m (c, RightEvent true f ms)) (to : StandsAt (atoms_at w.visit.place) b (c, RightEvent true h ns)) where
+    one_left : v.visit.place ≤ w.visit.place → (u : List ℕ) → RouteEnds s i v.visit.place v.visit.before.indices last.store (route v.visit.place m) u → RouteEnds s i w.visit.place w.visit.before.indices last.store (route w.visit.place b) u
+        → route_place (route v.visit.place m) ≡ route_place (route w.visit.place b) → n ≡ j
     one_left l u x y same =
         let node : (x.end.node == y.end.node) ≡ true = eq-eqb x.end.node y.end.node (x.there ∙ same ∙ sym y.there) in
-        let need = is_needed s k (only_atoms q) v.visit.place w.visit.place 1 (only_atoms q) routes others m f ms at x.end y.end x.is y.is node in
-        let listed : IsAmong need.needed (needed_among s k (only_atoms q) (routes_in parts)) = among_needed s k (only_atoms q) 0 (left_places s q) (size s.game) parts (game_ascends q.event s.game) v.visit.place w.visit.place (among n d v) (among j e w) l routes others r o need.needed need.among in
-        let needed : IsAmong need.needed (needed_pairs s k q parts) = subst (λ b. IsAmong need.needed (cond b (needed_among s k (only_atoms q) (routes_in parts)) [])) (sym inj) listed in
+        let first = end_among s (atoms_at v.visit.place) (entry_routes (entry v.visit.place)) m c f ms at x.end x.is in
+        let second = end_among s (atoms_at w.visit.place) (entry_routes (entry w.visit.place)) b c h ns to y.end y.is in
+        let need = is_needed s k q v.visit.place w.visit.place (entry_ends s q (entry v.visit.place)) (entry_ends s q (entry w.visit.place)) c x.end y.end first second node in
+        let listed : IsAmong need.needed (needed_among s k (ends_in s q parts)) = among_needed s k q 0 (left_places s q) (size s.game) parts (game_ascends q.event s.game) v.visit.place w.visit.place (among n d v) (among j e w) l (routes_here n d v) (routes_here j e w) need.needed need.among in
+        let needed : IsAmong need.needed (needed_pairs s k q parts) = subst (λ b. IsAmong need.needed (cond b (needed_among s k (ends_in s q parts)) [])) (sym inj) listed in
         let proof = pair_proved s k (distinct_in (behind_entries (left_places s q) parts)) (needed_pairs s k q parts) _ accepted.rest.pairs need.needed needed in
         let one = told s ready i model names behind a t reached hold v.number w.number v.visit w.visit v.among w.among v.counts w.counts (holds_here n d v) (holds_here j e w) k (raised_above s parts v.visit.place) q.event q.event v.arguments v.next w.arguments w.next v.there w.there
         l need.needed (distinct_in (behind_entries (left_places s q) parts)) proof need.first need.second x.end y.end u x.ends y.ends need.given apart in
@@ -220,50 +231,33 @@ module _ (s : Scene) (ready : IsReady s.declarations s.game) (i : Interpretation
       visit_long s.declarations (g s i q a t) Events a s.game t refl (game_context s.declarations s.game ready.formed) z.0 x.visit z.1 counts h.above known
       ∙ ap (λ o. length (replications_by o)) (sym known) ∙ ap (λ p. length (replications_at s p)) x.there
 
-  same_left : (n j : ℕ) (d e : Happened) (v : Left n d) (w : Left j e) (m f : ℕ) (ms : Tree) → StandsAt (only_atoms q) m (RightEvent true f ms) → (b c : Happened)
-      → (x : Executed v.visit (item_at (routes_of (entry v.visit.place)) m) b) (y : Executed w.visit (item_at (routes_of (entry w.visit.place)) m) c) → x.position ≡ y.position → n ≡ j
-  same_left n j d e v w m f ms at b c x y same = go (nat_lt w.visit.place v.visit.place) refl
+  same_left : (n j : ℕ) (d e : Happened) (v : Left n d) (w : Left j e) (m b c f h : ℕ) (ms ns : Tree) → StandsAt (atoms_at v.visit.place) m (c, RightEvent true f ms) → StandsAt (atoms_at w.visit.place) b (c, RightEvent true h ns) → (y z : Happened)
+      → (x : Executed v.visit (route v.visit.place m) y) (o : Executed w.visit (route w.visit.place b) z) → x.position ≡ o.position → n ≡ j
+  same_left n j d e v w m b c f h ms ns at to y z x o same = go (nat_lt w.visit.place v.visit.place) refl
     where
-      r : (routes : Tree) × IsRouted (entry v.visit.place) v.visit.place routes
-      r = routes_here n d v
-
-      o : (routes : Tree) × IsRouted (entry w.visit.place) w.visit.place routes
-      o = routes_here j e w
-
-      one : item_at (routes_of (entry v.visit.place)) m ≡ item_at r.0 m
-      one = ap (λ z. item_at (routes_of z) m) r.1.is
-
-      two : item_at (routes_of (entry w.visit.place)) m ≡ item_at o.0 m
-      two = ap (λ z. item_at (routes_of z) m) o.1.is
-
-      visit : x.visit ≡ y.visit
-      visit = some_injective (sym x.stands ∙ (ap (slice_get (event_visits (vs s i q a t))) same ∙ y.stands))
+      visit : x.visit ≡ o.visit
+      visit = some_injective (sym x.stands ∙ (ap (slice_get (event_visits (vs s i q a t))) same ∙ o.stands))
 
       u : List ℕ
       u = tuple x.visit.before.indices
 
-      there : route_place (item_at r.0 m) ≡ route_place (item_at o.0 m)
-      there = ap route_place (sym one) ∙ (sym x.there ∙ (ap (λ (z : Visit). z.place) visit ∙ (y.there ∙ ap route_place two)))
+      there : route_place (route v.visit.place m) ≡ route_place (route w.visit.place b)
+      there = sym x.there ∙ (ap (λ (z : Visit). z.place) visit ∙ o.there)
 
-      first : RouteEnds s i v.visit.place v.visit.before.indices last.store (item_at r.0 m) u
-      first =
-          ends_here n d v r.0 r.1 m true f ms at u (subst (λ z. IsFront u (route_tuple (g s i q a t) v.visit.before z)) one x.front)
-          (executed_long v.visit (item_at (routes_of (entry v.visit.place)) m) b x ∙ ap (λ z. length (replications_at s (route_place z))) one)
+      first : RouteEnds s i v.visit.place v.visit.before.indices last.store (route v.visit.place m) u
+      first = ends_here n d v m c true f ms at u x.front (executed_long v.visit (route v.visit.place m) y x)
 
-      behind_two : RouteEnds s i w.visit.place w.visit.before.indices last.store (item_at o.0 m) (tuple y.visit.before.indices)
-      behind_two =
-          ends_here j e w o.0 o.1 m true f ms at (tuple y.visit.before.indices) (subst (λ z. IsFront (tuple y.visit.before.indices) (route_tuple (g s i q a t) w.visit.before z)) two y.front)
-          (executed_long w.visit (item_at (routes_of (entry w.visit.place)) m) c y ∙ ap (λ z. length (replications_at s (route_place z))) two)
-
-      second : RouteEnds s i w.visit.place w.visit.before.indices last.store (item_at o.0 m) u
-      second = subst (λ (z : Visit). RouteEnds s i w.visit.place w.visit.before.indices last.store (item_at o.0 m) (tuple z.before.indices)) (sym visit) behind_two
+      second : RouteEnds s i w.visit.place w.visit.before.indices last.store (route w.visit.place b) u
+      second =
+          subst (λ (z : Visit). RouteEnds s i w.visit.place w.visit.before.indices last.store (route w.visit.place b) (tuple z.before.indices)) (sym visit)
+          (ends_here j e w b c true h ns to (tuple o.visit.before.indices) o.front (executed_long w.visit (route w.visit.place b) z o))
 
       go : (b : Bool) → nat_lt w.visit.place v.visit.place ≡ b → n ≡ j
-      go false z = one_left n j d e v w r.0 o.0 r.1 o.1 m f ms at (ltb-false w.visit.place v.visit.place z) u first second there
+      go false z = one_left n j d e v w m b c f h ms ns at to (ltb-false w.visit.place v.visit.place z) u first second there
       go true z =
           let less : w.visit.place < v.visit.place = ltb-true w.visit.place v.visit.place z in
           let most : w.visit.place ≤ v.visit.place = omega arith in
-          sym (one_left j n e d w v o.0 r.0 o.1 r.1 m f ms at most u second first (sym there))
+          sym (one_left j n e d w v b m c h f ns ms to at most u second first (sym there))
 
   -- the choice, by the left event at a position, if there is one
 
@@ -281,6 +275,13 @@ module _ (s : Scene) (ready : IsReady s.declarations s.game) (i : Interpretation
       go None k = inr (λ d l. none_some d (sym k ∙ l.0))
       go (Some e) k = test e k (e.event == q.event) refl
 
+  abbrev alternative_with : (n : ℕ) (e : Happened) → IsLeftAt q (es s i q a t) n e → List (ℕ × Atom)
+  alternative_with n e l = atoms_at (left_of n e l).visit.place
+
+  abbrev alternative_at : (n : ℕ) → AtPosition n → List (ℕ × Atom)
+  alternative_at n (inl z) = alternative_with n z.0 z.1
+  alternative_at n (inr f) = []
+
   abbrev others_with : (n : ℕ) (e : Happened) → IsLeftAt q (es s i q a t) n e → List ℕ
   others_with n e l = values_here (g s i q a t) (left_of n e l).visit.before (witnesses_of (entry (left_of n e l).visit.place))
 
@@ -288,75 +289,70 @@ module _ (s : Scene) (ready : IsReady s.declarations s.game) (i : Interpretation
   others_at n (inl z) = others_with n z.0 z.1
   others_at n (inr f) = []
 
-  abbrev position_with : (n : ℕ) (e : Happened) → IsLeftAt q (es s i q a t) n e → (m : ℕ) (o : Option Atom) → slice_get (only_atoms q) m ≡ o → ℕ
+  abbrev position_with : (n : ℕ) (e : Happened) (l : IsLeftAt q (es s i q a t) n e) (m : ℕ) (o : Option (ℕ × Atom)) → slice_get (alternative_with n e l) m ≡ o → ℕ
   position_with n e l m None p = 0
-  position_with n e l m (Some (RightTerm b)) p = 0
-  position_with n e l m (Some (RightEvent mark f ms)) p = ((is_met n e (left_of n e l) l.1).hold m (RightEvent mark f ms) p).position
+  position_with n e l m (Some (c, RightTerm b)) p = 0
+  position_with n e l m (Some (c, RightEvent mark f ms)) p = ((is_met n e (left_of n e l) l.1).hold m c (RightEvent mark f ms) p).position
 
   abbrev position_at : (n : ℕ) → AtPosition n → ℕ → ℕ
-  position_at n (inl z) m = position_with n z.0 z.1 m (slice_get (only_atoms q) m) refl
+  position_at n (inl z) m = position_with n z.0 z.1 m (slice_get (alternative_with n z.0 z.1) m) refl
   position_at n (inr f) m = 0
 
   abbrev choice : Choice
-  choice = record { alternative = λ n. numbered 1 atoms; others = λ n. others_at n (find_left n); position = λ n m. position_at n (find_left n) m }
+  choice = record { alternative = λ n. alternative_at n (find_left n); others = λ n. others_at n (find_left n); position = λ n m. position_at n (find_left n) m }
 
-  held : (n : ℕ) (e : Happened) (l : IsLeftAt q (es s i q a t) n e) (m : ℕ) (b : Atom) (p : slice_get (only_atoms q) m ≡ Some b) → HoldsWith (g s i q a t) (es s i q a t) (query_values q e (others_with n e l)) (position_with n e l m (Some b) p) b
-  held n e l m (RightEvent true f ms) p = ((is_met n e (left_of n e l) l.1).hold m (RightEvent true f ms) p).executed
-  held n e l m (RightEvent false f ms) p =
-      let x = (is_met n e (left_of n e l) l.1).hold m (RightEvent false f ms) p in
+  held : (n : ℕ) (e : Happened) (l : IsLeftAt q (es s i q a t) n e) (m : ℕ) (d : ℕ × Atom) (p : slice_get (alternative_with n e l) m ≡ Some d) → HoldsWith (g s i q a t) (es s i q a t) (query_values q e (others_with n e l)) (position_with n e l m (Some d) p) d.1
+  held n e l m (c, RightEvent true f ms) p = ((is_met n e (left_of n e l) l.1).hold m c (RightEvent true f ms) p).executed
+  held n e l m (c, RightEvent false f ms) p =
+      let x = (is_met n e (left_of n e l) l.1).hold m c (RightEvent false f ms) p in
       slice_contains (es s i q a t) x.position (right_event (g s i q a t) (query_values q e (others_with n e l)) f ms) x.executed
-  held n e l m (RightTerm b) p = (is_met n e (left_of n e l) l.1).hold m (RightTerm b) p
+  held n e l m (c, RightTerm b) p = (is_met n e (left_of n e l) l.1).hold m c (RightTerm b) p
 
-  held_with : (n : ℕ) (e : Happened) (l : IsLeftAt q (es s i q a t) n e) (m : ℕ) (atom : Atom) (o : Option Atom) (p : slice_get (only_atoms q) m ≡ o) → o ≡ Some atom → HoldsWith (g s i q a t) (es s i q a t) (query_values q e (others_with n e l)) (position_with n e l m o p) atom
-  held_with n e l m atom None p x = absurd (none_some atom x)
-  held_with n e l m atom (Some b) p x = subst (HoldsWith (g s i q a t) (es s i q a t) (query_values q e (others_with n e l)) (position_with n e l m (Some b) p)) (some_injective x) (held n e l m b p)
+  held_with : (n : ℕ) (e : Happened) (l : IsLeftAt q (es s i q a t) n e) (m : ℕ) (d : ℕ × Atom) (o : Option (ℕ × Atom)) (p : slice_get (alternative_with n e l) m ≡ o) → o ≡ Some d → HoldsWith (g s i q a t) (es s i q a t) (query_values q e (others_with n e l)) (position_with n e l m o p) d.1
+  held_with n e l m d None p x = absurd (none_some d x)
+  held_with n e l m d (Some b) p x = subst (λ (d : ℕ × Atom). HoldsWith (g s i q a t) (es s i q a t) (query_values q e (others_with n e l)) (position_with n e l m (Some b) p) d.1) (some_injective x) (held n e l m b p)
 
   -- of a marked atom its position is that of a right event where its route leads to
-  executed_with : (n : ℕ) (e : Happened) (l : IsLeftAt q (es s i q a t) n e) (m f : ℕ) (ms : Tree) → StandsAt (only_atoms q) m (RightEvent true f ms)
-      → (d : Happened) × (x : Executed (left_of n e l).visit (item_at (routes_of (entry (left_of n e l).visit.place)) m) d) × (position_with n e l m (slice_get (only_atoms q) m) refl ≡ x.position)
-  executed_with n e l m f ms at = go (slice_get (only_atoms q) m) refl at
+  executed_with : (n : ℕ) (e : Happened) (l : IsLeftAt q (es s i q a t) n e) (m c f : ℕ) (ms : Tree) → StandsAt (alternative_with n e l) m (c, RightEvent true f ms)
+      → (d : Happened) × (x : Executed (left_of n e l).visit (route (left_of n e l).visit.place m) d) × (position_with n e l m (slice_get (alternative_with n e l) m) refl ≡ x.position)
+  executed_with n e l m c f ms at = go (slice_get (alternative_with n e l) m) refl at
     where
-      no_term : (b : Tree) → ◌≡◌ {A = Option Atom} (Some (RightTerm b)) (Some (RightEvent true f ms)) → ⊥
-      no_term b x = cc
+      go : (o : Option (ℕ × Atom)) (p : slice_get (alternative_with n e l) m ≡ o) → o ≡ Some (c, RightEvent true f ms)
+          → (d : Happened) × (x : Executed (left_of n e l).visit (route (left_of n e l).visit.place m) d) × (position_with n e l m o p ≡ x.position)
+      go None p x = absurd (none_some (c, RightEvent true f ms) x)
+      go (Some (h, RightTerm b)) p x = absurd (no_term h c f ms b x)
+      go (Some (h, RightEvent mark y hs)) p x = (right_event (g s i q a t) (query_values q e (others_with n e l)) y hs, (is_met n e (left_of n e l) l.1).hold m h (RightEvent mark y hs) p, refl)
 
-      go : (o : Option Atom) (p : slice_get (only_atoms q) m ≡ o) → o ≡ Some (RightEvent true f ms)
-          → (d : Happened) × (x : Executed (left_of n e l).visit (item_at (routes_of (entry (left_of n e l).visit.place)) m) d) × (position_with n e l m o p ≡ x.position)
-      go None p x = absurd (none_some (RightEvent true f ms) x)
-      go (Some (RightTerm b)) p x = absurd (no_term b x)
-      go (Some (RightEvent mark h hs)) p x = (right_event (g s i q a t) (query_values q e (others_with n e l)) h hs, (is_met n e (left_of n e l) l.1).hold m (RightEvent mark h hs) p, refl)
-
-  atom_here : (m n : ℕ) (atom : Atom) → StandsAt (numbered 1 atoms) m (n, atom) → StandsAt (only_atoms q) m atom
-  atom_here m n atom x = ap (λ cs. slice_get (first_of_alternatives cs) m) only ∙ atom_at (numbered 1 atoms) m n atom x
-
-  one_position : (n j : ℕ) (z : AtPosition n) (y : AtPosition j) (d e : Happened) → IsLeftAt q (es s i q a t) n d → IsLeftAt q (es s i q a t) j e → (m f : ℕ) (ms : Tree) → StandsAt (only_atoms q) m (RightEvent true f ms) → position_at n z m ≡ position_at j y m → n ≡ j
-  one_position n j (inr x) y d e l o m f ms at same = absurd (x d l)
-  one_position n j (inl z) (inr x) d e l o m f ms at same = absurd (x e o)
-  one_position n j (inl z) (inl y) d e l o m f ms at same =
-      let b = executed_with n z.0 z.1 m f ms at in
-      let c = executed_with j y.0 y.1 m f ms at in
-      same_left n j z.0 y.0 (left_of n z.0 z.1) (left_of j y.0 y.1) m f ms at b.0 c.0 b.1 c.1 (sym b.2 ∙ (same ∙ c.2))
+  one_position : (n j : ℕ) (z : AtPosition n) (y : AtPosition j) (d e : Happened) → IsLeftAt q (es s i q a t) n d → IsLeftAt q (es s i q a t) j e
+      → (m b c : ℕ) → IsMarkedAt (alternative_at n z) m c → IsMarkedAt (alternative_at j y) b c → position_at n z m ≡ position_at j y b → n ≡ j
+  one_position n j (inr x) y d e l o m b c at to same = absurd (x d l)
+  one_position n j (inl z) (inr x) d e l o m b c at to same = absurd (x e o)
+  one_position n j (inl z) (inl y) d e l o m b c at to same =
+      let u = executed_with n z.0 z.1 m c at.event at.arguments at.stands in
+      let w = executed_with j y.0 y.1 b c to.event to.arguments to.stands in
+      same_left n j z.0 y.0 (left_of n z.0 z.1) (left_of j y.0 y.1) m b c at.event to.event at.arguments to.arguments at.stands to.stands u.0 w.0 u.1 w.1 (sym u.2 ∙ (same ∙ w.2))
 
   pub has_matching : HasMatching (setting_of s.declarations i) q (run (setting_of s.declarations i) Events a s.game t).memory.events
   has_matching = (
     choice,
     record {
-      are_alternatives = λ n e l. subst (λ alternatives. Contains alternatives (numbered 1 atoms)) (sym only) (0, omega arith, refl);
+      are_alternatives = λ n e l. alternatives_at n (find_left n) e l;
       are_values = λ n e l. values_at n (find_left n) e l;
-      hold = λ n e l m c atom x. held_at n (find_left n) e l m atom (atom_here m c atom x);
-      injective = λ n j d e l o m b c x y same.
-          let one : c ≡ 1 + m = numbered_at 1 atoms m c (RightEvent true x.event x.arguments) x.stands in
-          let two : c ≡ 1 + b = numbered_at 1 atoms b c (RightEvent true y.event y.arguments) y.stands in
-          let equal : m ≡ b = omega arith in
-          one_position n j (find_left n) (find_left j) d e l o m x.event x.arguments (atom_here m c (RightEvent true x.event x.arguments) x.stands) (same ∙ ap (position_at j (find_left j)) (sym equal));
+      hold = λ n e l m c atom x. held_at n (find_left n) e l m c atom x;
+      injective = λ n j d e l o m b c x y same. one_position n j (find_left n) (find_left j) d e l o m b c x y same;
     },
   )
     where
+      alternatives_at : (n : ℕ) (z : AtPosition n) (e : Happened) → IsLeftAt q (es s i q a t) n e → Contains q.alternatives (alternative_at n z)
+      alternatives_at n (inl z) e l = (is_met n z.0 (left_of n z.0 z.1) z.1.1).is_alternative
+      alternatives_at n (inr f) e l = absurd (f e l)
+
       values_at : (n : ℕ) (z : AtPosition n) (e : Happened) → IsLeftAt q (es s i q a t) n e → AreValues (g s i q a t) q.others (others_at n z)
       values_at n (inl z) e l = (is_met n z.0 (left_of n z.0 z.1) z.1.1).are_values
       values_at n (inr f) e l = absurd (f e l)
 
-      held_at : (n : ℕ) (z : AtPosition n) (e : Happened) → IsLeftAt q (es s i q a t) n e → (m : ℕ) (atom : Atom) → StandsAt (only_atoms q) m atom → HoldsWith (g s i q a t) (es s i q a t) (query_values q e (others_at n z)) (position_at n z m) atom
-      held_at n (inr f) e l m atom at = absurd (f e l)
-      held_at n (inl z) e l m atom at =
+      held_at : (n : ℕ) (z : AtPosition n) (e : Happened) → IsLeftAt q (es s i q a t) n e → (m c : ℕ) (atom : Atom) → StandsAt (alternative_at n z) m (c, atom) → HoldsWith (g s i q a t) (es s i q a t) (query_values q e (others_at n z)) (position_at n z m) atom
+      held_at n (inr f) e l m c atom at = absurd (f e l)
+      held_at n (inl z) e l m c atom at =
           subst (λ d. HoldsWith (g s i q a t) (es s i q a t) (query_values q d (others_with n z.0 z.1)) (position_at n (inl z) m) atom) (some_injective (sym z.1.0 ∙ l.0))
-          (held_with n z.0 z.1 m atom (slice_get (only_atoms q) m) refl at)
+          (held_with n z.0 z.1 m (c, atom) (slice_get (alternative_with n z.0 z.1) m) refl at)

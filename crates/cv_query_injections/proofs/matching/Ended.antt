@@ -124,13 +124,13 @@ pub record RouteEnds (s : Scene) (i : Interpretation) (place : ℕ) (at : Indice
   pub ends : EndsAt s i place at m end u
 
 -- the route of an atom, and its derivation
-pub route_at : (s : Scene) (p : ℕ) (put : Tree → Tree) (cs : List Atom) (routes : Tree) → have_route_forms s p cs routes ≡ true → AllByRecursion (Proves s p) (claims_of s put cs routes) → (n : ℕ) (c : Atom) → StandsAt cs n c
-    → (has_route_form s p c (item_at routes n) ≡ true) × Proves s p (claim_of s put c (item_at routes n))
+pub route_at : (s : Scene) (p : ℕ) (put : Tree → Tree) (cs : List (ℕ × Atom)) (routes : Tree) → have_route_forms s p cs routes ≡ true → AllByRecursion (Proves s p) (claims_of s put cs routes) → (n : ℕ) (c : ℕ × Atom) → StandsAt cs n c
+    → (has_route_form s p c.1 (item_at routes n) ≡ true) × Proves s p (claim_of s put c.1 (item_at routes n))
 route_at s p put [] routes e d n c k = absurd (none_some c k)
 route_at s p put (b ∷ cs) Empty e d n c k = absurd (both_ways _ refl e)
 route_at s p put (b ∷ cs) (Node h route more) e d zero c k =
-    subst (λ c. (has_route_form s p c route ≡ true) × Proves s p (claim_of s put c route)) (some_injective k) ((and_parts (has_route_form s p b route) _ e).0, d.0)
-route_at s p put (b ∷ cs) (Node h route more) e d (suc n) c k = route_at s p put cs more (and_parts (has_route_form s p b route) _ e).1 d.1 n c k
+    subst (λ (c : ℕ × Atom). (has_route_form s p c.1 route ≡ true) × Proves s p (claim_of s put c.1 route)) (some_injective k) ((and_parts (has_route_form s p b.1 route) _ e).0, d.0)
+route_at s p put (b ∷ cs) (Node h route more) e d (suc n) c k = route_at s p put cs more (and_parts (has_route_form s p b.1 route) _ e).1 d.1 n c k
 
 module _ (s : Scene) (ready : IsReady s.declarations s.game) (i : Interpretation) (names : (p : ℕ) (Γ : Context) → stands_at s.game p ≡ Some Γ → IsFine s.declarations s.game Γ) (behind : (y : ℕ) → AllByRecursion (IsBehind s.game) (sites_of s.game y)) (a : Adversary) (t : Tape)
     (number : ℕ) (v : Visit) (stands : StandsAt (visits_of_run (setting_of s.declarations i) Events a s.game t) number v) (counts : IsSyntax v.tree) (derives : HoldAtVisit s i v) where

@@ -3,7 +3,7 @@ use Rattle.std.proofs.Common.{◌≡◌, ◌↔◌, ℕ, true, false, List, [], 
 use Rattle.std.specs.Prelude.{MatchBool}
 use Rattle.std.specs.List.{AllByRecursion}
 use Rattle.cv_syntax_trees.specs.declared.head.Head.TheVariants.{EventsCertificate}
-use Rattle.cv_syntax_trees.specs.Tree.{Tree, Node, second}
+use Rattle.cv_syntax_trees.specs.Tree.{Tree, Node}
 use Rattle.cv_meaning.specs.Interpretation.{Interpretation, Setting, setting_of}
 use Rattle.cv_meaning.specs.Memory.{Happened, Memory}
 use Rattle.cv_meaning.specs.Satisfies.{Satisfies}
@@ -11,7 +11,7 @@ use Rattle.cv_meaning.specs.Tapes.{Tape}
 use Rattle.cv_meaning.specs.Runs.{Adversary, Events}
 use Rattle.cv_meaning.specs.Experiments.{run, visits_of_run}
 use Rattle.cv_meaning.specs.Serving.{Visit}
-use Rattle.cv_meaning.specs.Correspondences.{Correspondence, atoms_of, broken, correspondence_of}
+use Rattle.cv_meaning.specs.Correspondences.{Correspondence, broken, correspondence_of}
 use Rattle.cv_meaning_laws.specs.adequacy.Broken.{AllMet, HasMatching, IsKept, StandsAt}
 use Rattle.cv_meaning_chances.specs.Tests.{some_equal}
 use Rattle.cv_directory_sorts.specs.Sites.{Variable, first_site}
@@ -29,7 +29,7 @@ use Rattle.cv_query_laws.specs.correspondences.Happenings.{happening_at}
 use Rattle.cv_query_laws.specs.correspondences.Premises.{IsProved}
 use Rattle.cv_query_laws.specs.routes.Ends.{AreMetBy}
 use Rattle.cv_query_laws.specs.visits.Events.{event_visits}
-use Rattle.cv_query_laws.proofs.correspondences.Closing.{built_list, events_proof, only_alternative}
+use Rattle.cv_query_laws.proofs.correspondences.Closing.{events_proof}
 use Rattle.cv_rule_birthday_laws.specs.chosen.Drawn.{AreDrawn, choices_of}
 use Rattle.cv_query_injections.specs.Differing.{AllDiffer, Differ}
 use Rattle.cv_query_injections.proofs.matching.Chosen.{has_matching}
@@ -58,7 +58,7 @@ module _ (s : Scene) (query certificate : Tree) (proved : IsProved s query certi
     matched parts accepted differ =
         has_matching s proved.ready i model
         (places_fine s.declarations s.game proved.ready.formed.phrase (typed s.declarations s.game proved.ready.arguments proved.ready.formed proved.ready.typed proved.ready.names) proved.ready.cells)
-        behind q inj (atoms_of (second (second query))) (only_alternative query (built_list query certificate proved.correspondence proved.accepted.built)) parts accepted a t reached hold derives met happened
+        behind q inj parts accepted a t reached hold derives met happened
         (all_apart s i t last.store drawn one_tuple (distinct_in (behind_entries (left_places s q) parts)) [] accepted.rest.distinct differ)
 
     matched_by : (certificate : Tree) → IsEventsProof s q certificate → AllDiffer s i certificate t → HasMatching g q last.events

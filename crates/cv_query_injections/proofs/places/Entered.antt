@@ -1,7 +1,7 @@
 -- The entries of a certificate by the places of the left event, and the pairs that are needed of two of them.
-use Rattle.std.proofs.Common.{◌≡◌, ℕ, zero, suc, ◌+◌, ◌<◌, ◌≤◌, Bool, true, false, cond, ◌==◌, List, [], ◌∷◌, ◌++◌, inl, inr, Option, Some, None, refl, sym, subst, arith, eqb-true, eq-eqb}
+use Rattle.std.proofs.Common.{◌≡◌, ℕ, zero, suc, ◌+◌, ◌<◌, ◌≤◌, Bool, true, false, cond, ◌&&◌, ◌==◌, List, [], ◌∷◌, ◌++◌, inl, inr, Some, refl, sym, subst, arith, eqb-true, eq-eqb}
 use Rattle.std.specs.Prelude.{flat_map, map}
-use Rattle.std.proofs.lemmas.Bool.{and_parts, both_ways}
+use Rattle.std.proofs.lemmas.Bool.{and_from, and_parts, both_ways}
 use Rattle.cv_syntax_trees.specs.declared.head.Head.{Head}
 use Rattle.cv_syntax_trees.specs.declared.head.Head.TheVariants.{AtEntry, Event, NeverEntry, Number, WithEntry}
 use Rattle.cv_syntax_trees.specs.Head.{weight}
@@ -15,8 +15,8 @@ use Rattle.cv_lists.proofs.Options.{none_some, some_injective}
 use Rattle.cv_query_certificates.specs.Accepted.{AreEntries, IsEntry}
 use Rattle.cv_query_certificates.specs.EventNodes.{event_places, is_event_head, place_in}
 use Rattle.cv_query_certificates.specs.Forms.{is_number}
-use Rattle.cv_query_certificates.specs.Pairs.{End, Needed, end_of, equations_between, needed_among, needed_at, needed_for, needed_from, routes_in}
-use Rattle.cv_query_laws.specs.routes.Ends.{item_at}
+use Rattle.cv_query_certificates.specs.Pairs.{End, Needed, end_of, ends_in, ends_of_choice, equations_between, injective_ends, is_injective, needed_among, needed_at, needed_for, needed_from, numbered_end}
+use Rattle.cv_query_laws.specs.routes.Ends.{choice_of, item_at}
 use Rattle.cv_query_laws.proofs.correspondences.Behind.{IsAmong, among_left, among_right}
 
 -- the places of an event's nodes ascend
@@ -76,10 +76,10 @@ entry_at (k ∷ ps) Empty p = Empty
 entry_at (k ∷ ps) (Node h entry more) p = cond (k == p) entry (entry_at ps more p)
 
 -- an entry with routes, which says its place
-pub record IsRouted (entry : Tree) (p : ℕ) (routes : Tree) : Type 0 where
+pub record IsRouted (entry : Tree) (p : ℕ) : Type 0 where
   pub number : Tree
   pub witnesses : Tree
-  pub is : entry ≡ Node AtEntry number (Node WithEntry witnesses routes)
+  pub is : entry ≡ Node AtEntry number (Node WithEntry witnesses (choice_of entry))
   pub there : place_in number ≡ p
 
 number_place : (p : ℕ) (n : Tree) → is_number p n ≡ true → place_in n ≡ p
@@ -89,7 +89,7 @@ number_place p n e = absurd (both_ways _ refl e)
 -- one of them either has routes, or says that its place is never reached
 pub data Kind (p : ℕ) (entry : Tree) : Type 0 where
   never : (number by e : Tree) → entry ≡ Node AtEntry number (Node NeverEntry by e) → Kind p entry
-  routed : (routes : Tree) → IsRouted entry p routes → Kind p entry
+  routed : IsRouted entry p → Kind p entry
 
 module _ (s : Scene) (q : Correspondence) where
   pub entry_stands : (ps : List ℕ) (parts : Tree) → AreEntries s q ps parts → (p : ℕ) → IsAmong p ps → IsEntry s q p (entry_at ps parts p)
@@ -104,102 +104,112 @@ module _ (s : Scene) (q : Correspondence) where
 
   pub kind_of : (p : ℕ) (entry : Tree) → IsEntry s q p entry → Kind p entry
   kind_of p (Node AtEntry n (Node NeverEntry by e)) z = never n by e refl
-  kind_of p (Node AtEntry n (Node WithEntry ws routes)) z =
-      routed routes (record { number = n; witnesses = ws; is = refl; there = number_place p n (and_parts (is_number p n) _ z.form).0 })
+  kind_of p (Node AtEntry n (Node WithEntry ws choice)) z = routed (record { number = n; witnesses = ws; is = refl; there = number_place p n (and_parts (is_number p n) _ z.form).0 })
   kind_of p entry z = absurd (both_ways _ refl z.form)
 
--- routes of a part and of those behind it
+-- the ends of a part's routes and of those behind it
 
-more_routes : (h : Head) (entry more : Tree) (x : ℕ × Tree) → IsAmong x (routes_in more) → IsAmong x (routes_in (Node h entry more))
-more_routes h (Node AtEntry n (Node WithEntry ws routes)) more x i = inr i
-more_routes h entry more x i = i
+module _ (s : Scene) (q : Correspondence) where
+  abbrev pub entry_ends : (entry : Tree) → List (ℕ × End)
+  entry_ends entry = ends_of_choice s q (choice_of entry)
 
-among_routes : (ps : List ℕ) (parts : Tree) (p : ℕ) (routes : Tree) → IsAmong p ps → IsRouted (entry_at ps parts p) p routes → IsAmong (p, routes) (routes_in parts)
-among_routes [] parts p routes i r = absurd i
-among_routes (k ∷ ps) Empty p routes i r = absurd (empty r.number r.witnesses r.is)
-  where
-    empty : (n ws : Tree) → Empty ≡ Node AtEntry n (Node WithEntry ws routes) → ⊥
-    empty n ws e = cc
-among_routes (k ∷ ps) (Node h entry more) p routes i r = go (k == p) refl i r (among_routes ps more p routes)
-  where
-    go : (u : Bool) → (k == p) ≡ u → IsAmong p (k ∷ ps) → IsRouted (cond u entry (entry_at ps more p)) p routes → (IsAmong p ps → IsRouted (entry_at ps more p) p routes → IsAmong (p, routes) (routes_in more)) → IsAmong (p, routes) (routes_in (Node h entry more))
-    go true e i r ih =
-        subst (λ x. IsAmong (p, routes) (routes_in (Node h x more))) (sym r.is) (inl (λ j. (sym r.there j, routes)))
-    go false e (inl j) r ih = absurd (both_ways _ e (eq-eqb k p (sym j)))
-    go false e (inr j) r ih = more_routes h entry more (p, routes) (ih j r)
+  more_ends : (h : Head) (entry more : Tree) (x : ℕ × List (ℕ × End)) → IsAmong x (ends_in s q more) → IsAmong x (ends_in s q (Node h entry more))
+  more_ends h (Node AtEntry n (Node WithEntry ws choice)) more x i = inr i
+  more_ends h entry more x i = i
+
+  among_ends : (ps : List ℕ) (parts : Tree) (p : ℕ) → IsAmong p ps → IsRouted (entry_at ps parts p) p → IsAmong (p, entry_ends (entry_at ps parts p)) (ends_in s q parts)
+  among_ends [] parts p i r = absurd i
+  among_ends (k ∷ ps) Empty p i r = absurd (empty r.number r.witnesses (choice_of Empty) r.is)
+    where
+      empty : (n ws choice : Tree) → Empty ≡ Node AtEntry n (Node WithEntry ws choice) → ⊥
+      empty n ws choice e = cc
+  among_ends (k ∷ ps) (Node h entry more) p i r = go (k == p) refl i r (among_ends ps more p)
+    where
+      go : (u : Bool) → (k == p) ≡ u → IsAmong p (k ∷ ps) → IsRouted (cond u entry (entry_at ps more p)) p → (IsAmong p ps → IsRouted (entry_at ps more p) p → IsAmong (p, entry_ends (entry_at ps more p)) (ends_in s q more))
+          → IsAmong (p, entry_ends (cond u entry (entry_at ps more p))) (ends_in s q (Node h entry more))
+      go true e i r ih = subst (λ x. IsAmong (p, entry_ends entry) (ends_in s q (Node h x more))) (sym r.is) (inl (λ j. (sym r.there j, entry_ends entry)))
+      go false e (inl j) r ih = absurd (both_ways _ e (eq-eqb k p (sym j)))
+      go false e (inr j) r ih = more_ends h entry more _ (ih j r)
+
+-- the end of the route of an atom that is marked `inj`
+pub end_among : (s : Scene) (cs : List (ℕ × Atom)) (routes : Tree) (m n f : ℕ) (ms : Tree) → StandsAt cs m (n, RightEvent true f ms) → (e : End) → end_of s (item_at routes m) ≡ Some e → IsAmong (n, e) (injective_ends s cs routes)
+end_among s [] routes m n f ms x e i = absurd (none_some (n, RightEvent true f ms) x)
+end_among s (c ∷ cs) Empty m n f ms x e i = absurd (none_some e i)
+end_among s (c ∷ cs) (Node h r rs) zero n f ms x e i =
+    subst (λ (d : ℕ × Atom). IsAmong (n, e) (injective_ends s (d ∷ cs) (Node h r rs))) (sym (some_injective x))
+    (subst (λ o. IsAmong (n, e) (numbered_end n o ++ injective_ends s cs rs)) (sym i) (inl refl))
+end_among s (c ∷ cs) (Node h r rs) (suc m) n f ms x e i =
+    among_right (n, e) (cond (is_injective c.1) (numbered_end c.0 (end_of s r)) []) (injective_ends s cs rs) (end_among s cs rs m n f ms x e i)
 
 -- the pairs that are needed
 
-module _ (s : Scene) (k : ℕ) (atoms : List Atom) where
-  more_needed : (h : Head) (entry more : Tree) (n : Needed) → IsAmong n (needed_among s k atoms (routes_in more)) → IsAmong n (needed_among s k atoms (routes_in (Node h entry more)))
-  more_needed h (Node AtEntry m (Node WithEntry ws routes)) more n i = among_right n (needed_from s k atoms (place_in m, routes) ((place_in m, routes) ∷ routes_in more)) _ i
+module _ (s : Scene) (k : ℕ) (q : Correspondence) where
+  more_needed : (h : Head) (entry more : Tree) (n : Needed) → IsAmong n (needed_among s k (ends_in s q more)) → IsAmong n (needed_among s k (ends_in s q (Node h entry more)))
+  more_needed h (Node AtEntry m (Node WithEntry ws choice)) more n i =
+      among_right n (needed_from s k (place_in m, ends_of_choice s q choice) ((place_in m, ends_of_choice s q choice) ∷ ends_in s q more)) _ i
   more_needed h entry more n i = i
 
   -- of two places, the first of which doesn't stand behind the other, all pairs are needed
-  pub among_needed : (b : ℕ) (ps : List ℕ) (e : ℕ) (parts : Tree) → Ascends b ps e → (p q : ℕ) → IsAmong p ps → IsAmong q ps → p ≤ q → (routes others : Tree) → IsRouted (entry_at ps parts p) p routes → IsRouted (entry_at ps parts q) q others
-      → (n : Needed) → IsAmong n (needed_for s k p q 1 atoms routes others) → IsAmong n (needed_among s k atoms (routes_in parts))
-  among_needed b [] e parts h p q i j l routes others r t n x = absurd i
-  among_needed b (m ∷ ps) e Empty h p q i j l routes others r t n x = absurd (empty r.number r.witnesses r.is)
+  pub among_needed : (b : ℕ) (ps : List ℕ) (e : ℕ) (parts : Tree) → Ascends b ps e → (p o : ℕ) → IsAmong p ps → IsAmong o ps → p ≤ o → IsRouted (entry_at ps parts p) p → IsRouted (entry_at ps parts o) o
+      → (n : Needed) → IsAmong n (needed_for s k p o (entry_ends s q (entry_at ps parts p)) (entry_ends s q (entry_at ps parts o))) → IsAmong n (needed_among s k (ends_in s q parts))
+  among_needed b [] e parts h p o i j l r t n x = absurd i
+  among_needed b (m ∷ ps) e Empty h p o i j l r t n x = absurd (empty r.number r.witnesses (choice_of Empty) r.is)
     where
-      empty : (n ws : Tree) → Empty ≡ Node AtEntry n (Node WithEntry ws routes) → ⊥
-      empty n ws e = cc
-  among_needed b (m ∷ ps) e (Node g entry more) h p q i j l routes others r t n x =
-      go (m == p) refl i r (m == q) refl j t (λ i j r t. among_needed (suc m) ps e more h.1 p q i j l routes others r t n x)
+      empty : (n ws choice : Tree) → Empty ≡ Node AtEntry n (Node WithEntry ws choice) → ⊥
+      empty n ws choice e = cc
+  among_needed b (m ∷ ps) e (Node g entry more) h p o i j l r t n x =
+      go (m == p) refl i r (among_ends s q (m ∷ ps) (Node g entry more) o j t) (m == o) refl j t x (λ i j r t x. among_needed (suc m) ps e more h.1 p o i j l r t n x)
     where
-      this : m ≡ p → IsRouted entry p routes → IsAmong n (needed_among s k atoms (routes_in (Node g entry more)))
-      this same r =
-          let there : IsAmong (q, others) (routes_in (Node g entry more)) = among_routes (m ∷ ps) (Node g entry more) q others j t in
-          let first : IsAmong n (needed_from s k atoms (place_in r.number, routes) (routes_in (Node g entry more))) =
-          among_flat (λ (f : ℕ × Tree). needed_for s k (place_in r.number) f.0 1 atoms routes f.1) (q, others) n (routes_in (Node g entry more)) there
-          (subst (λ o. IsAmong n (needed_for s k o q 1 atoms routes others)) (sym r.there) x) in
-          subst (λ y. IsAmong n (needed_from s k atoms (place_in r.number, routes) (routes_in (Node g y more))) → IsAmong n (needed_among s k atoms (routes_in (Node g y more)))) (sym r.is)
-          (λ z. among_left n (needed_from s k atoms (place_in r.number, routes) ((place_in r.number, routes) ∷ routes_in more)) (needed_among s k atoms (routes_in more)) z) first
+      Listed : Type 0
+      Listed = IsAmong n (needed_among s k (ends_in s q (Node g entry more)))
+
+      this : IsRouted entry p → (fs : List (ℕ × End)) → IsAmong (o, fs) (ends_in s q (Node g entry more)) → IsAmong n (needed_for s k p o (entry_ends s q entry) fs) → Listed
+      this r fs there x =
+          let own : List (ℕ × End) = entry_ends s q entry in
+          let first : IsAmong n (needed_from s k (place_in r.number, own) (ends_in s q (Node g entry more))) =
+          among_flat (λ (y : ℕ × List (ℕ × End)). needed_for s k (place_in r.number) y.0 own y.1) (o, fs) n (ends_in s q (Node g entry more)) there
+          (subst (λ a. IsAmong n (needed_for s k a o own fs)) (sym r.there) x) in
+          subst (λ y. IsAmong n (needed_from s k (place_in r.number, own) (ends_in s q (Node g y more))) → IsAmong n (needed_among s k (ends_in s q (Node g y more)))) (sym r.is)
+          (λ z. among_left n (needed_from s k (place_in r.number, own) ((place_in r.number, own) ∷ ends_in s q more)) (needed_among s k (ends_in s q more)) z) first
 
       above : IsAmong p ps → m < p
       above i = among_above (suc m) ps e p h.1 i
 
-      go : (u : Bool) → (m == p) ≡ u → IsAmong p (m ∷ ps) → IsRouted (cond u entry (entry_at ps more p)) p routes → (v : Bool) → (m == q) ≡ v → IsAmong q (m ∷ ps) → IsRouted (cond v entry (entry_at ps more q)) q others
-          → (IsAmong p ps → IsAmong q ps → IsRouted (entry_at ps more p) p routes → IsRouted (entry_at ps more q) q others → IsAmong n (needed_among s k atoms (routes_in more)))
-          → IsAmong n (needed_among s k atoms (routes_in (Node g entry more)))
-      go true d i r v f j t ih = this (eqb-true m p d) r
-      go false d (inl i) r v f j t ih = absurd (both_ways _ d (eq-eqb m p (sym i)))
-      go false d (inr i) r true f j t ih = let same : m ≡ q = eqb-true m q f in let high : m < p = above i in absurd (omega arith)
-      go false d (inr i) r false f (inl j) t ih = absurd (both_ways _ f (eq-eqb m q (sym j)))
-      go false d (inr i) r false f (inr j) t ih = more_needed g entry more n (ih i j r t)
+      go : (u : Bool) → (m == p) ≡ u → IsAmong p (m ∷ ps) → IsRouted (cond u entry (entry_at ps more p)) p → IsAmong (o, entry_ends s q (cond (m == o) entry (entry_at ps more o))) (ends_in s q (Node g entry more))
+          → (v : Bool) → (m == o) ≡ v → IsAmong o (m ∷ ps) → IsRouted (cond v entry (entry_at ps more o)) o
+          → IsAmong n (needed_for s k p o (entry_ends s q (cond u entry (entry_at ps more p))) (entry_ends s q (cond (m == o) entry (entry_at ps more o))))
+          → (IsAmong p ps → IsAmong o ps → IsRouted (entry_at ps more p) p → IsRouted (entry_at ps more o) o → IsAmong n (needed_for s k p o (entry_ends s q (entry_at ps more p)) (entry_ends s q (entry_at ps more o))) → IsAmong n (needed_among s k (ends_in s q more)))
+          → Listed
+      go true d i r there v f j t x ih = this r (entry_ends s q (cond (m == o) entry (entry_at ps more o))) there x
+      go false d (inl i) r there v f j t x ih = absurd (both_ways _ d (eq-eqb m p (sym i)))
+      go false d (inr i) r there true f j t x ih = let same : m ≡ o = eqb-true m o f in let high : m < p = above i in absurd (omega arith)
+      go false d (inr i) r there false f (inl j) t x ih = absurd (both_ways _ f (eq-eqb m o (sym j)))
+      go false d (inr i) r there false f (inr j) t x ih =
+          more_needed g entry more n
+          (ih i j r t (subst (λ b. IsAmong n (needed_for s k p o (entry_ends s q (entry_at ps more p)) (entry_ends s q (cond b entry (entry_at ps more o))))) f x))
 
-  -- of an atom that is marked `inj`, whose routes end at one node
-  pub record IsNeeded (p q : ℕ) (e f : End) (ns : List Needed) : Type 0 where
+  -- of routes for one atom that end at one node
+  pub record IsNeeded (p o : ℕ) (e f : End) (ns : List Needed) : Type 0 where
     pub needed : Needed
     pub among : IsAmong needed ns
     pub first : needed.first ≡ p
-    pub second : needed.second ≡ q
-    pub given : needed.given ≡ equations_between e.indices (map (of_second k (replications_at s q)) f.indices)
+    pub second : needed.second ≡ o
+    pub given : needed.given ≡ equations_between e.indices (map (of_second k (replications_at s o)) f.indices)
 
-  later : (p q : ℕ) (e f : End) (ms ns : List Needed) → IsNeeded p q e f ns → IsNeeded p q e f (ms ++ ns)
-  later p q e f ms ns x = record { needed = x.needed; among = among_right x.needed ms ns x.among; first = x.first; second = x.second; given = x.given }
-
-  here : (p q c : ℕ) (e f : End) (o u : Option End) (ns : List Needed) → o ≡ Some e → u ≡ Some f → (e.node == f.node) ≡ true → IsNeeded p q e f (needed_at s k p q c o u ++ ns)
-  here p q c e f None u ns i j z = absurd (none_some e i)
-  here p q c e f (Some d) None ns i j z = absurd (none_some f j)
-  here p q c e f (Some d) (Some g) ns i j z =
-      let a : d ≡ e = some_injective i in
-      let b : g ≡ f = some_injective j in
-      subst (λ (w : End × End). IsNeeded p q e f (needed_at s k p q c (Some w.0) (Some w.1) ++ ns)) (λ t. (sym a t, sym b t)) (go (e.node == f.node) z)
+  pub is_needed : (p o : ℕ) (es fs : List (ℕ × End)) (c : ℕ) (e f : End) → IsAmong (c, e) es → IsAmong (c, f) fs → (e.node == f.node) ≡ true → IsNeeded p o e f (needed_for s k p o es fs)
+  is_needed p o es fs c e f i j z = record {
+    needed = own;
+    among =
+        among_flat (λ (x : ℕ × End). flat_map (needed_at s k p o x) fs) (c, e) own es i
+        (among_flat (needed_at s k p o (c, e)) (c, f) own fs j (here ((c == c) && (e.node == f.node)) (and_from (c == c) _ (eq-eqb c c refl) z)));
+    first = refl;
+    second = refl;
+    given = refl;
+  }
     where
       own : Needed
-      own = record { first = p; second = q; atom = c; given = equations_between e.indices (map (of_second k (replications_at s q)) f.indices) }
+      own = record { first = p; second = o; atom = c; given = equations_between e.indices (map (of_second k (replications_at s o)) f.indices) }
 
-      go : (b : Bool) → b ≡ true → IsNeeded p q e f (cond b (own ∷ []) [] ++ ns)
-      go true i = record { needed = own; among = inl refl; first = refl; second = refl; given = refl }
-      go false i = absurd (both_ways _ refl i)
-
-  pub is_needed : (p q c : ℕ) (cs : List Atom) (routes others : Tree) (n a : ℕ) (ms : Tree) → StandsAt cs n (RightEvent true a ms) → (e f : End) → end_of s (item_at routes n) ≡ Some e → end_of s (item_at others n) ≡ Some f → (e.node == f.node) ≡ true
-      → IsNeeded p q e f (needed_for s k p q c cs routes others)
-  is_needed p q c [] routes others n a ms x e f i j z = absurd (none_some (RightEvent true a ms) x)
-  is_needed p q c (d ∷ cs) Empty others n a ms x e f i j z = absurd (none_some e i)
-  is_needed p q c (d ∷ cs) (Node g r rs) Empty n a ms x e f i j z = absurd (none_some f j)
-  is_needed p q c (d ∷ cs) (Node g r rs) (Node h t ts) zero a ms x e f i j z =
-      let same : d ≡ RightEvent true a ms = some_injective x in
-      subst (λ d. IsNeeded p q e f (needed_for s k p q c (d ∷ cs) (Node g r rs) (Node h t ts))) (sym same)
-      (here p q c e f (end_of s r) (end_of s t) (needed_for s k p q (suc c) cs rs ts) i j z)
-  is_needed p q c (d ∷ cs) (Node g r rs) (Node h t ts) (suc n) a ms x e f i j z = later p q e f _ _ (is_needed p q (suc c) cs rs ts n a ms x e f i j z)
+      here : (b : Bool) → b ≡ true → IsAmong own (cond b (own ∷ []) [])
+      here true z = inl refl
+      here false z = absurd (both_ways _ refl z)

@@ -4,9 +4,9 @@ use Rattle.std.proofs.lemmas.Bool.{both_ways}
 use Rattle.cv_lists.proofs.Options.{first_of_none, some_none}
 use Rattle.cv_syntax_trees.specs.declared.class.Class.TheVariants as class
 use Rattle.cv_syntax_trees.specs.declared.head.Head.{Head}
-use Rattle.cv_syntax_trees.specs.declared.head.Head.TheVariants.{EventsCertificate, New, Secret, SecretCertificate, SecretOnce}
+use Rattle.cv_syntax_trees.specs.declared.head.Head.TheVariants.{EventsCertificate, New, Query, Secret, SecretCertificate, SecretOnce}
 use Rattle.cv_syntax_trees.specs.Declarations.{Declaration, Named}
-use Rattle.cv_syntax_trees.specs.Tree.{Tree, Empty, Node, first_place, second_place}
+use Rattle.cv_syntax_trees.specs.Tree.{Tree, Node, first_place, second_place}
 use Rattle.cv_meaning.specs.Correspondences.{Correspondence, correspondence_of}
 use Rattle.cv_meaning.specs.Interpretation.{Interpretation}
 use Rattle.cv_meaning.specs.Satisfies.{Satisfies}
@@ -104,13 +104,15 @@ module _ (s : Scene) (i : Interpretation) (sat : Satisfies s.declarations i) whe
   events_valued whole q certificate h = absurd h
 
   secret_valued : (once : Bool) (x : ℕ) (certificate : Tree) → IsSecretProof once s x certificate → HasTapes (bound_of i (cost_of_certificate s certificate))
-  secret_valued once x (Node SecretCertificate Empty e) h = omega arith
-  secret_valued once x certificate h = absurd h
+  secret_valued once x (Node SecretCertificate pairs e) h = omega arith
+  secret_valued true x certificate h = absurd h
+  secret_valued false x certificate h = absurd h
 
   by_kind : is_phrase Inputs s.game ≡ true → (query certificate : Tree) → IsProofOf s query certificate → HasTapes (bound_of i (cost_of_certificate s certificate))
+  by_kind whole (Node Query bs sides) certificate h = events_valued whole (correspondence_of (Node Query bs sides)) certificate h
   by_kind whole (Node (Secret x) a b) certificate h = secret_valued false x certificate h
   by_kind whole (Node (SecretOnce x) a b) certificate h = secret_valued true x certificate h
-  by_kind whole query certificate h = events_valued whole (correspondence_of query) certificate h
+  by_kind whole query certificate h = absurd h
 
 pub valued : (s : Scene) (query certificate : Tree) → IsReady s.declarations s.game → IsAccepted s query certificate → (i : Interpretation) → Satisfies s.declarations i → HasTapes (bound_of i (cost_of_certificate s certificate))
 valued s query certificate w accepted i sat = by_kind s i sat w.formed.phrase query certificate accepted.proof

@@ -6,7 +6,7 @@ use Rattle.std.proofs.lemmas.List.Sums.{sum_by-cons}
 use Rattle.std.proofs.lemmas.List.Elements.{All-cons, All-head, All-nil, All-tail, All-weaker}
 use Rattle.std.specs.List.{All, AllByRecursion, count_by}
 use Rattle.cv_syntax_trees.specs.declared.head.Head.TheVariants.{Event, EventsCertificate, Query}
-use Rattle.cv_syntax_trees.specs.Tree.{Tree, Empty, Node, first, second, subtree}
+use Rattle.cv_syntax_trees.specs.Tree.{Tree, Empty, Node, first, subtree}
 use Rattle.cv_meaning.specs.Tapes.{Tape, blank, count}
 use Rattle.cv_meaning.specs.Interpretation.{Interpretation, Setting, setting_of}
 use Rattle.cv_meaning.specs.Memory.{Happened, Local}
@@ -14,7 +14,7 @@ use Rattle.cv_meaning.specs.Terms.{values_here}
 use Rattle.cv_meaning.specs.Cells.{cells}
 use Rattle.cv_meaning.specs.Chances.{AtMost, Chance, zero_chance}
 use Rattle.cv_meaning.specs.Advantage.{advantage, chance_of}
-use Rattle.cv_meaning.specs.Correspondences.{Correspondence, atoms_of, broken, correspondence_of, numbered}
+use Rattle.cv_meaning.specs.Correspondences.{Correspondence, broken, correspondence_of}
 use Rattle.cv_meaning.specs.Experiments.{Breaks, coins_on, holds_on, run, visits_of_run}
 use Rattle.cv_meaning.specs.Runs.{Adversary, Events, State, start}
 use Rattle.cv_meaning.specs.Satisfies.{Satisfies}
@@ -34,8 +34,7 @@ use Rattle.cv_scope_runs.proofs.Standing.{stands_known}
 use Rattle.cv_derive_laws.specs.stores.Holding.{HoldAtVisit}
 use Rattle.cv_derive_laws.specs.stores.Reached.{HasTypes}
 use Rattle.cv_scene.specs.Scenes.{Scene, or_empty}
-use Rattle.cv_query_certificates.specs.Accepted.{AreEntries, IsEntry, IsEventsProof, IsProofOf, is_built}
-use Rattle.cv_query_certificates.specs.Alternatives.{has_list}
+use Rattle.cv_query_certificates.specs.Accepted.{AreEntries, IsEntry, IsEventsProof, IsProofOf}
 use Rattle.cv_query_certificates.specs.EventNodes.{arguments_at}
 use Rattle.cv_query_certificates.specs.Forms.{left_places}
 use Rattle.cv_query_laws.specs.correspondences.Happenings.{happening, happening_at, happenings}
@@ -45,7 +44,6 @@ use Rattle.cv_query_laws.proofs.correspondences.Happening.{run_happens}
 use Rattle.cv_query_laws.proofs.correspondences.Meeting.{entry_met}
 use Rattle.cv_query_laws.proofs.correspondences.Naming.{closed_named}
 use Rattle.cv_lists.proofs.Each.{AllByRecursion_append}
-use Rattle.cv_query_certificates.proofs.Alternatives.{list_only}
 
 all_at : {A : Type 0} (P : A → Type 0) (xs : List A) (n : ℕ) (x : A) → AllByRecursion P xs → slice_get xs n ≡ Some x → P x
 all_at P [] n x a e = absurd (none e)
@@ -70,14 +68,6 @@ module _ (s : Scene) (q : Correspondence) where
   place_entry p (Node EventsCertificate parts e) a i = entry_of p (left_places s q) parts a.entries i
   place_entry p certificate a i = absurd a
 
--- the right side is a list of atoms, its only alternative
-pub built_list : (query certificate : Tree) → is_correspondence query ≡ true → is_built query certificate ≡ true → has_list query ≡ true
-built_list (Node Query bs sides) certificate k e = e
-built_list query certificate k e = absurd (both_ways _ refl k)
-
-pub only_alternative : (query : Tree) → has_list query ≡ true → (correspondence_of query).alternatives ≡ numbered 1 (atoms_of (second (second query))) ∷ []
-only_alternative query l = list_only (second (second query)) l
-
 pub events_proof : (s : Scene) (query certificate : Tree) → is_correspondence query ≡ true → IsProofOf s query certificate → IsEventsProof s (correspondence_of query) certificate
 events_proof s (Node Query bs sides) certificate k p = p
 events_proof s query certificate k p = absurd (both_ways _ refl k)
@@ -88,9 +78,6 @@ module _ (s : Scene) (query certificate : Tree) (proved : IsProved s query certi
 
   abbrev q : Correspondence
   q = correspondence_of query
-
-  has_atoms : has_list query ≡ true
-  has_atoms = built_list query certificate proved.correspondence proved.accepted.built
 
   fine : Game g (is_variable s.game) s.game
   fine = well_game s.declarations g s.game refl (game_context s.declarations s.game proved.ready.formed)
@@ -120,7 +107,7 @@ module _ (s : Scene) (query certificate : Tree) (proved : IsProved s query certi
               let args : arguments_at s.game v.place ≡ a = ap (λ o. first (or_empty o)) (tree refl) in
               let r = entry_met s i proved.ready model fine q v.place l
               (record { above = h.above; known = stands_known s.game v.place h.phrase h.above (Node (Event e) a b) refl h.stands; matches = h.matches; holds = h.holds; stores = h.stores; types = types })
-              (λ by targets d. proved.sound.targets s i v.place l.indices l.memory.store l.memory.store by targets (derives refl).0 d) st.memory.events grows.events (numbered 1 (atoms_of (second (second query)))) (only_alternative query has_atoms) entry.0 (closed_named s.declarations query proved.correspondence has_atoms proved.closed) entry.1 in
+              (λ by targets d. proved.sound.targets s i v.place l.indices l.memory.store l.memory.store by targets (derives refl).0 d) st.memory.events grows.events entry.0 (closed_named s.declarations query proved.correspondence proved.closed) entry.1 in
               subst (λ (x : Happened). IsMet g q st.memory.events x) (λ j. record { event = sym same j; values = values_here g l (args j) }) r
       go t l h grows derives types tree = tt
 

@@ -49,14 +49,15 @@ use Rattle.cv_scene.specs.Scenes.{Scene}
 use Rattle.cv_scene.specs.Sights.{at_cell, is_cell_at, is_term_of, sight_at}
 use Rattle.cv_scene.specs.Terms.{above_at, is_sort, is_term_at, replications_at, replications_by, signature_in}
 use Rattle.cv_query_certificates.specs.Accepted.{IsEntry, Proves}
-use Rattle.cv_query_certificates.specs.Alternatives.{atoms_in, first_of_alternatives, only_atoms}
+use Rattle.cv_query_certificates.specs.Alternatives.{chosen, chosen_atoms, routes_of}
 use Rattle.cv_query_certificates.specs.Claims.{at_place, behind_cell, claim_of, claims_of, equations, joined}
 use Rattle.cv_query_certificates.specs.Claims as claims
 use Rattle.cv_query_certificates.specs.EventNodes.{are_for, arguments_at, is_event_above, only_site, place_in, the_only}
 use Rattle.cv_query_certificates.specs.Forms.{has_route_form, have_route_forms, have_types, is_above_site, is_number}
-use Rattle.cv_query_laws.specs.routes.Ends.{Execution, HoldsBy, IsMetBy, item_at, routes_of, witnesses_of}
+use Rattle.cv_query_certificates.proofs.Alternatives.{is_alternative}
+use Rattle.cv_query_laws.specs.routes.Ends.{Execution, HoldsBy, IsMetBy, entry_atoms, entry_routes, item_at, witnesses_of}
 use Rattle.cv_query_laws.proofs.correspondences.Behind.{EventNode, IsAmong, arguments_phrase, event_node, known_above, site_keeps}
-use Rattle.cv_query_laws.proofs.correspondences.Naming.{HasNamedAtoms, IsNamed, IsNamedAtom}
+use Rattle.cv_query_laws.proofs.correspondences.Naming.{AreNamedAtoms, HasNamedAtoms, IsNamed, IsNamedAtom}
 use Rattle.cv_query_laws.proofs.correspondences.Putting.{as_many_left, as_many_right, both_names, both_values, equal_values}
 use Rattle.cv_query_laws.proofs.correspondences.Sites.{only_definition}
 use Rattle.cv_derive_laws.proofs.reached.Reached.{index_names, same_indices}
@@ -71,6 +72,11 @@ among_all : {A : Type 0} (P : A → Type 0) (x : A) (xs : List A) → IsAmong x 
 among_all P x [] a h = absurd a
 among_all P x (y ∷ ys) (inl e) h = subst P (sym e) h.0
 among_all P x (y ∷ ys) (inr a) h = among_all P x ys a h.1
+
+contained : {A : Type 0} (P : A → Type 0) (xs : List A) (x : A) → AllByRecursion P xs → Contains xs x → P x
+contained P [] x a (k, l, e) = absurd (omega (arith, l))
+contained P (y ∷ xs) x a (zero, l, e) = subst P e a.0
+contained P (y ∷ xs) x a (suc k, l, e) = contained P xs x a.1 (k, omega (arith, l), e)
 
 -- what defines a variable is a node with a place
 pub maker_counts : (h : Head) (a : Tree) (x : ℕ) → made_by h a (Variable x) ≡ true → weight h ≡ 1
@@ -114,15 +120,6 @@ module _ (g : Setting) (variable : ℕ → Bool) (at : Indices) (m : Store) wher
     all_readable_over Empty f r = tt
     all_readable_over (Node Cons a b) f r = let z = and_parts (is_phrase Term a) _ f in (readable_over a z.0 r.0, all_readable_over b z.1 r.1)
     all_readable_over (Node h a b) f r = absurd (both_ways _ refl f)
-
--- an atom of the only alternative by its number
-pub atom_at : (cs : List (ℕ × Atom)) (k n : ℕ) (c : Atom) → StandsAt cs k (n, c) → StandsAt (atoms_in cs) k c
-atom_at [] k n c s = absurd (no_pair s)
-  where
-    no_pair : ◌≡◌ {A = Option (ℕ × Atom)} None (Some (n, c)) → ⊥
-    no_pair s = cc
-atom_at (d ∷ cs) zero n c s = let same : d ≡ (n, c) = cc in ap (λ (z : ℕ × Atom). Some z.1) same
-atom_at (d ∷ cs) (suc k) n c s = atom_at cs k n c s
 
 -- what holds in a visit of the left event's node
 pub record IsThere (s : Scene) (i : Interpretation) (fine : Game (setting_of s.declarations i) (is_variable s.game) s.game) (p : ℕ) (l : Local) : Type 0 where
@@ -327,26 +324,30 @@ module _ (s : Scene) (i : Interpretation) (ready : IsReady s.declarations s.game
       route_met (RightTerm t) (Node h a b) o e d = absurd (both_ways _ refl e)
       route_met (RightTerm t) Empty o e d = absurd (both_ways _ refl e)
 
-      routes_met : (cs : List Atom) (routes : Tree) → AllByRecursion (IsNamedAtom s.declarations q) cs → have_route_forms s p cs routes ≡ true → AllByRecursion (Proves s p) (claims_of s put cs routes) → (n : ℕ) (c : Atom) → StandsAt cs n c → HoldsBy g E l ρ c (item_at routes n)
+      routes_met : (cs : List (ℕ × Atom)) (routes : Tree) → AreNamedAtoms s.declarations q cs → have_route_forms s p cs routes ≡ true → AllByRecursion (Proves s p) (claims_of s put cs routes) → (n : ℕ) (c : ℕ × Atom) → StandsAt cs n c → HoldsBy g E l ρ c.1 (item_at routes n)
       routes_met [] routes o e d n c k = absurd (no_atom c k)
         where
-          no_atom : (c : Atom) → ◌≡◌ {A = Option Atom} None (Some c) → ⊥
+          no_atom : (c : ℕ × Atom) → ◌≡◌ {A = Option (ℕ × Atom)} None (Some c) → ⊥
           no_atom c k = cc
       routes_met (c ∷ cs) Empty o e d n a k = absurd (both_ways _ refl e)
       routes_met (c ∷ cs) (Node h route more) o e d zero a k =
           let same : c ≡ a = cc in
-          subst (λ a. HoldsBy g E l ρ a route) same (route_met c route o.0 (and_parts (has_route_form s p c route) _ e).0 d.0)
-      routes_met (c ∷ cs) (Node h route more) o e d (suc n) a k = routes_met cs more o.1 (and_parts (has_route_form s p c route) _ e).1 d.1 n a k
+          subst (λ (a : ℕ × Atom). HoldsBy g E l ρ a.1 route) same (route_met c.1 route o.0 (and_parts (has_route_form s p c.1 route) _ e).0 d.0)
+      routes_met (c ∷ cs) (Node h route more) o e d (suc n) a k = routes_met cs more o.1 (and_parts (has_route_form s p c.1 route) _ e).1 d.1 n a k
 
   pub entry_met_by : (E : Execution) → ExecutesAbove E → ExecutesBehind E → (entry : Tree) → HasNamedAtoms s.declarations q → IsEntry s q p entry → IsMetBy g q E l left entry
   entry_met_by E above behind (Node AtEntry n (Node NeverEntry by e)) o z = absurd (never_met by z.claims.0)
-  entry_met_by E above behind (Node AtEntry n (Node WithEntry ws routes)) o z =
+  entry_met_by E above behind (Node AtEntry n (Node WithEntry ws choice)) o z =
       let a = and_parts (is_number p n) _ z.form in
       let b = and_parts (are_for q.variables args) _ a.1 in
       let c = and_parts (have_types (sight_at s p) q.others ws) _ b.1 in
+      let d = and_parts (is_some (chosen q.alternatives choice)) _ c.1 in
+      let alternative = is_alternative q.alternatives choice d.0 in
       record {
+        is_alternative = alternative;
         are_values = witnesses_sorted ws b.0 q.others ws c.0;
-        hold = routes_met ws b.0 c.0 E above behind (only_atoms q) routes o c.1 z.claims;
+        hold = λ k n a x.
+            routes_met ws b.0 c.0 E above behind (chosen_atoms q.alternatives choice) (routes_of choice) (contained (AreNamedAtoms s.declarations q) q.alternatives _ o alternative) d.1 z.claims k (n, a) x;
       }
   entry_met_by E above behind entry o z = absurd (both_ways _ refl z.form)
 
@@ -362,15 +363,13 @@ module _ (s : Scene) (i : Interpretation) (ready : IsReady s.declarations s.game
     held_of ρ (RightEvent inj f ms) route h = h
     held_of ρ (RightTerm t) route h = h
 
-    pub entry_met : (atoms : List (ℕ × Atom)) → q.alternatives ≡ atoms ∷ [] → (entry : Tree) → HasNamedAtoms s.declarations q → IsEntry s q p entry → IsMet g q es left
-    entry_met atoms only entry o z =
+    pub entry_met : (entry : Tree) → HasNamedAtoms s.declarations q → IsEntry s q p entry → IsMet g q es left
+    entry_met entry o z =
         let r = entry_met_by (λ n u e. Contains es e) recorded_above recorded_behind entry o z in
         record {
-          alternative = atoms;
-          is_alternative = subst (λ alternatives. Contains alternatives atoms) (sym only) (0, omega arith, refl);
+          alternative = entry_atoms q entry;
+          is_alternative = r.is_alternative;
           others = values_here g l (witnesses_of entry);
           are_values = r.are_values;
-          hold = λ k j a x.
-              held_of (query_values q left (values_here g l (witnesses_of entry))) a (item_at (routes_of entry) k)
-              (r.hold k a (subst (λ cs. StandsAt cs k a) (sym (ap first_of_alternatives only)) (atom_at atoms k j a x)));
+          hold = λ k j a x. held_of (query_values q left (values_here g l (witnesses_of entry))) a (item_at (entry_routes entry) k) (r.hold k j a x);
         }

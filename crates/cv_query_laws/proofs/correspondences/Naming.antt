@@ -1,17 +1,16 @@
 -- The variables that the right side of a query reads are arguments of the left event, or stand on the right alone.
-use Rattle.std.proofs.Common.{◌≡◌, ℕ, Bool, true, false, cond, ◌&&◌, ◌||◌, not, ◌==◌, List, [], ◌∷◌, ◌++◌, map, inl, inr, refl, sym, ap, subst, ◌∙◌, eqb-true, eq-eqb}
+use Rattle.std.proofs.Common.{◌≡◌, ℕ, ◌+◌, Bool, true, false, cond, ◌&&◌, ◌||◌, not, ◌==◌, List, [], ◌∷◌, ◌++◌, map, inl, inr, refl, sym, ap, subst, ◌∙◌, eqb-true, eq-eqb}
 use Rattle.std.specs.Prelude.{filter}
 use Rattle.std.proofs.lemmas.Bool.{and_from, both_ways, not-true}
 use Rattle.std.specs.List.{AllByRecursion, list_any}
+use Rattle.cv_lists.proofs.Each.{AllByRecursion_append, AllByRecursion_flat_map}
 use Rattle.cv_syntax_trees.specs.declared.head.Head.{Head}
-use Rattle.cv_syntax_trees.specs.declared.head.Head.TheVariants.{And, Apply, Binder, Cons, Eq, Leaf, No, Not, Occurs, OccursOnce, Or, Query, Read, Yes}
+use Rattle.cv_syntax_trees.specs.declared.head.Head.TheVariants.{And, Apply, Binder, Cons, Eq, Leaf, No, Not, Occurs, OccursOnce, Or, Query, Read, SomeOf, Yes}
 use Rattle.cv_syntax_trees.specs.Declarations.{Declaration}
 use Rattle.cv_syntax_trees.specs.Tree.{Tree, Empty, Node, bound_names, head_reads_only, reads_only}
-use Rattle.cv_meaning.specs.Correspondences.{Atom, Correspondence, RightEvent, RightTerm, atom_of, atoms_of, correspondence_from, correspondence_of, reads, typed_names}
+use Rattle.cv_meaning.specs.Correspondences.{Atom, Correspondence, RightEvent, RightTerm, alternatives_from, atom_count, atom_of, correspondence_from, correspondence_of, each_with, reads, typed_names}
 use Rattle.cv_derive_laws.specs.stores.Truth.{AreOver, IsOver, is_name_of}
-use Rattle.cv_query_certificates.specs.Alternatives.{first_of_alternatives, has_list, only_atoms}
 use Rattle.cv_query_certificates.specs.Claims.{names_of}
-use Rattle.cv_query_certificates.proofs.Alternatives.{list_only, numbered_atoms}
 use Rattle.cv_query_laws.specs.correspondences.Premises.{is_correspondence}
 use Rattle.cv_query.specs.kinds.Closed.{AreClosedAtoms, IsClosedAtom, IsClosedQuery, IsKnown}
 
@@ -24,8 +23,12 @@ abbrev pub IsNamedAtom : List Declaration → Correspondence → Atom → Type 0
 IsNamedAtom ds q (RightEvent inj f ms) = AreOver (IsNamed ds q) ⊥ ms
 IsNamedAtom ds q (RightTerm m) = IsOver (IsNamed ds q) ⊥ m
 
+abbrev pub AreNamedAtoms : List Declaration → Correspondence → List (ℕ × Atom) → Type 0
+AreNamedAtoms ds q atoms = AllByRecursion (λ (c : ℕ × Atom). IsNamedAtom ds q c.1) atoms
+
+-- in each alternative
 abbrev pub HasNamedAtoms : List Declaration → Correspondence → Type 0
-HasNamedAtoms ds q = AllByRecursion (IsNamedAtom ds q) (only_atoms q)
+HasNamedAtoms ds q = AllByRecursion (AreNamedAtoms ds q) q.alternatives
 
 -- what a part reads is read
 
@@ -137,20 +140,30 @@ module _ (ds : List Declaration) (bs left whole : Tree) where
   known x r (inl e) = inl (read_named bs left whole x r e)
   known x r (inr e) = inr e
 
+  -- each of some alternatives, with each of others behind it
+  each_named : (xs ys : List (List (ℕ × Atom))) → AllByRecursion (AreNamedAtoms ds q) xs → AllByRecursion (AreNamedAtoms ds q) ys → AllByRecursion (AreNamedAtoms ds q) (each_with xs ys)
+  each_named xs ys a b = AllByRecursion_flat_map (AreNamedAtoms ds q) (AreNamedAtoms ds q) (λ x. map (λ y. x ++ y) ys) (λ x o. put_behind x o ys b) xs a
+    where
+      put_behind : (x : List (ℕ × Atom)) → AreNamedAtoms ds q x → (ys : List (List (ℕ × Atom))) → AllByRecursion (AreNamedAtoms ds q) ys → AllByRecursion (AreNamedAtoms ds q) (map (λ y. x ++ y) ys)
+      put_behind x o [] b = tt
+      put_behind x o (y ∷ ys) b = (AllByRecursion_append (λ (c : ℕ × Atom). IsNamedAtom ds q c.1) x y o b.0, put_behind x o ys b.1)
+
   atom_named : (m : Tree) → ((x : ℕ) → reads m x ≡ true → reads whole x ≡ true) → IsClosedAtom L m → IsNamedAtom ds q (atom_of m)
   atom_named Empty f o = absurd o
   atom_named (Node (Occurs e) ms b) f o = all_weaker L (IsNamed ds q) ms (λ x r. known x (f x (reads_first x (Occurs e) ms b r))) o
   atom_named (Node (OccursOnce e) ms b) f o = all_weaker L (IsNamed ds q) ms (λ x r. known x (f x (reads_first x (OccursOnce e) ms b r))) o
   atom_named (Node h a b) f o = weaker L (IsNamed ds q) (Node h a b) (λ x r. known x (f x r)) o
 
-  atoms_named : (atoms : Tree) → ((x : ℕ) → reads atoms x ≡ true → reads whole x ≡ true) → AreClosedAtoms L atoms → AllByRecursion (IsNamedAtom ds q) (atoms_of atoms)
-  atoms_named Empty f o = tt
-  atoms_named (Node h a b) f o = (atom_named a (λ x r. f x (reads_first x h a b r)) o.0, atoms_named b (λ x r. f x (reads_second x h a b r)) o.1)
+  alternatives_named : (n : ℕ) (right : Tree) → ((x : ℕ) → reads right x ≡ true → reads whole x ≡ true) → AreClosedAtoms L right → AllByRecursion (AreNamedAtoms ds q) (alternatives_from n right)
+  alternatives_named n Empty f o = (tt, tt)
+  alternatives_named n (Node Cons a b) f o =
+      each_named (alternatives_from n a) (alternatives_from (n + atom_count a) b) (alternatives_named n a (λ x r. f x (reads_first x Cons a b r)) o.0) (alternatives_named (n + atom_count a) b (λ x r. f x (reads_second x Cons a b r)) o.1)
+  alternatives_named n (Node SomeOf a b) f o =
+      AllByRecursion_append (AreNamedAtoms ds q) (alternatives_from n a) (alternatives_from (n + atom_count a) b) (alternatives_named n a (λ x r. f x (reads_first x SomeOf a b r)) o.0)
+      (alternatives_named (n + atom_count a) b (λ x r. f x (reads_second x SomeOf a b r)) o.1)
+  alternatives_named n (Node h a b) f o = ((atom_named (Node h a b) f o, tt), tt)
 
-pub closed_named : (ds : List Declaration) (query : Tree) → is_correspondence query ≡ true → has_list query ≡ true → IsClosedQuery ds query → HasNamedAtoms ds (correspondence_of query)
-closed_named ds (Node Query bs (Node h left atoms)) b l o =
-    subst (AllByRecursion (IsNamedAtom ds (correspondence_from bs left atoms)))
-    (sym (ap first_of_alternatives (list_only atoms l) ∙ numbered_atoms 1 (atoms_of atoms)))
-    (atoms_named ds bs left atoms atoms (λ x r. r) o)
-closed_named ds (Node Query bs Empty) b l o = tt
-closed_named ds query b l o = absurd (both_ways _ refl b)
+pub closed_named : (ds : List Declaration) (query : Tree) → is_correspondence query ≡ true → IsClosedQuery ds query → HasNamedAtoms ds (correspondence_of query)
+closed_named ds (Node Query bs (Node h left right)) b o = alternatives_named ds bs left right 1 right (λ x r. r) o
+closed_named ds (Node Query bs Empty) b o = (tt, tt)
+closed_named ds query b o = absurd (both_ways _ refl b)

@@ -48,7 +48,6 @@ use Rattle.cv_scene.specs.lines.Lines.{lines_of, statements}
 use Rattle.cv_scene.specs.Scenes.{Scene, or_empty}
 use Rattle.cv_query.specs.kinds.Closed.{IsClosedQuery}
 use Rattle.cv_query_certificates.specs.Accepted.{IsEntry, Proves}
-use Rattle.cv_query_certificates.specs.Alternatives.{has_list}
 use Rattle.cv_query_certificates.specs.EventNodes.{arguments_at}
 use Rattle.cv_lists.proofs.Options.{AllByRecursion_slice_get, none_some}
 use Rattle.cv_query_laws.specs.correspondences.Happenings.{happening, happening_at}
@@ -245,7 +244,7 @@ module _ (s : Scene) (ready : IsReady s.declarations s.game) (i : Interpretation
   no_event : (e : Happened) → ◌≡◌ {A = List Happened} [] (e ∷ []) → ⊥
   no_event e k = cc
 
-  module _ (query : Tree) (correspondence : is_correspondence query ≡ true) (list : has_list query ≡ true) (closed : IsClosedQuery s.declarations query) (sound : DerivationsHold s.declarations) (model : Satisfies s.declarations i) (derives : AllByRecursion (HoldAtVisit s i) vs) (typed : AllByRecursion (HasTypes s.declarations s.game i) vs) where
+  module _ (query : Tree) (correspondence : is_correspondence query ≡ true) (closed : IsClosedQuery s.declarations query) (sound : DerivationsHold s.declarations) (model : Satisfies s.declarations i) (derives : AllByRecursion (HoldAtVisit s i) vs) (typed : AllByRecursion (HasTypes s.declarations s.game i) vs) where
     abbrev q : Correspondence
     q = correspondence_of query
 
@@ -266,17 +265,17 @@ module _ (s : Scene) (ready : IsReady s.declarations s.game) (i : Interpretation
             let left : record { event = q.event; values = values_here g v.before (arguments_at s.game v.place) } ≡ e =
             (λ j. record { event = (sym same ∙ ap (λ (d : Happened). d.event) (sym own)) j; values = values_here g v.before (args j) }) ∙ own in
             subst (λ (d : Happened). IsMetBy g q ExecutionOfRun v.before d entry) left
-            (entry_met_by s i ready model fine q v.place v.before there true_at ExecutionOfRun (above q model n v o w there true_at) (behind q model n v o w there true_at) entry (closed_named s.declarations query correspondence list closed) entered)
+            (entry_met_by s i ready model fine q v.place v.before there true_at ExecutionOfRun (above q model n v o w there true_at) (behind q model n v o w there true_at) entry (closed_named s.declarations query correspondence closed) entered)
         go h n o b here z = absurd (no_event e z)
 
-module _ (s : Scene) (query : Tree) (ready : IsReady s.declarations s.game) (sound : DerivationsHold s.declarations) (correspondence : is_correspondence query ≡ true) (list : has_list query ≡ true) (closed : IsClosedQuery s.declarations query) (i : Interpretation) (model : Satisfies s.declarations i) (a : Adversary) where
+module _ (s : Scene) (query : Tree) (ready : IsReady s.declarations s.game) (sound : DerivationsHold s.declarations) (correspondence : is_correspondence query ≡ true) (closed : IsClosedQuery s.declarations query) (i : Interpretation) (model : Satisfies s.declarations i) (a : Adversary) where
   pub all_met_by_visits : (place : ℕ) (entry : Tree) → IsEntry s (correspondence_of query) place entry → All (λ t. AllByRecursion (HasTypes s.declarations s.game i) (visits_of_run (setting_of s.declarations i) Events a s.game t)) (tapes_of (cells (setting_of s.declarations i) Events a s.game) blank)
       → All (λ t. AreMetBy (setting_of s.declarations i) (correspondence_of query) (visits_of_run (setting_of s.declarations i) Events a s.game t) (run (setting_of s.declarations i) Events a s.game t).memory.events place entry) (tapes_of (cells (setting_of s.declarations i) Events a s.game) blank)
   all_met_by_visits place entry entered typed =
       let g : Setting = setting_of s.declarations i in
       All-weaker (λ t. AllByRecursion (HoldAtVisit s i) (visits_of_run g Events a s.game t) × AllByRecursion (HasTypes s.declarations s.game i) (visits_of_run g Events a s.game t))
       (λ t. AreMetBy g (correspondence_of query) (visits_of_run g Events a s.game t) (run g Events a s.game t).memory.events place entry)
-      (λ t h number v k there e x same. met_by_visits s ready i a t query correspondence list closed sound model h.0 h.1 entry number v k (subst (λ p. IsEntry s (correspondence_of query) p entry) (sym there) entered) e x same)
+      (λ t h number v k there e x same. met_by_visits s ready i a t query correspondence closed sound model h.0 h.1 entry number v k (subst (λ p. IsEntry s (correspondence_of query) p entry) (sym there) entered) e x same)
       (tapes_of (cells g Events a s.game) blank)
       (both_all (λ t. AllByRecursion (HoldAtVisit s i) (visits_of_run g Events a s.game t)) (λ t. AllByRecursion (HasTypes s.declarations s.game i) (visits_of_run g Events a s.game t)) (tapes_of (cells g Events a s.game) blank)
       (sound.places s refl ready i model Events a) typed)

@@ -1,6 +1,6 @@
 -- What the routes of a certificate's entry name, and that visits meet it. Correspondences are those of Blanchet, CSF 2007;
 -- certificates are this profile's own.
-use Rattle.std.specs.Prelude.{◌≡◌, ℕ, zero, suc, List, [], ◌∷◌}
+use Rattle.std.specs.Prelude.{◌≡◌, ℕ, zero, suc, List, [], ◌∷◌, Contains}
 use Rattle.cv_syntax_trees.specs.declared.head.Head.TheVariants.{AboveRoute, CellRoute}
 use Rattle.cv_syntax_trees.specs.Tree.{Tree, Empty, Node, first, second}
 use Rattle.cv_meaning.specs.Interpretation.{Setting}
@@ -9,7 +9,7 @@ use Rattle.cv_meaning.specs.Serving.{Visit}
 use Rattle.cv_meaning.specs.Terms.{value, values_here}
 use Rattle.cv_meaning.specs.Correspondences.{Atom, Correspondence, RightEvent, RightTerm}
 use Rattle.cv_meaning_laws.specs.adequacy.Broken.{AreValues, StandsAt, query_values, right_event}
-use Rattle.cv_query_certificates.specs.Alternatives.{only_atoms}
+use Rattle.cv_query_certificates.specs.Alternatives.{chosen_atoms, routes_of}
 use Rattle.cv_query_certificates.specs.EventNodes.{place_in}
 use Rattle.cv_query_laws.specs.correspondences.Happenings.{happening_at}
 use Rattle.cv_query_laws.specs.visits.Events.{event_visits}
@@ -33,12 +33,19 @@ item_at Empty n = Empty
 item_at (Node h a b) zero = a
 item_at (Node h a b) (suc n) = item_at b n
 
--- the witnesses and the routes of an entry
-abbrev pub witnesses_of : Tree → Tree
+-- the witnesses of an entry, the atoms of the alternative that it chooses, and their routes
+
+abbrev pub witnesses_of : (entry : Tree) → Tree
 witnesses_of entry = first (second entry)
 
-abbrev pub routes_of : Tree → Tree
-routes_of entry = second (second entry)
+abbrev pub choice_of : (entry : Tree) → Tree
+choice_of entry = second (second entry)
+
+abbrev pub entry_atoms : Correspondence → (entry : Tree) → List (ℕ × Atom)
+entry_atoms q entry = chosen_atoms q.alternatives (choice_of entry)
+
+abbrev pub entry_routes : (entry : Tree) → Tree
+entry_routes entry = routes_of (choice_of entry)
 
 -- which event a node executed, at the first ones of these indices
 abbrev pub Execution : Type 1
@@ -49,12 +56,13 @@ abbrev pub HoldsBy : Setting → Execution → Local → Indices → Atom → (r
 HoldsBy g E l ρ (RightEvent inj f ms) route = E (route_place route) (route_tuple g l route) (right_event g ρ f ms)
 HoldsBy g E l ρ (RightTerm m) route = value g ρ nowhere m ≡ 1
 
--- At the visit of the left event, with the values of the entry's witnesses for the variables on the right alone, the event has its right
--- events where the routes lead to, and its right terms.
+-- At the visit of the left event, with the values of the entry's witnesses for the variables on the right alone, the event has the right
+-- events of the entry's alternative where the routes lead to, and its right terms.
 pub record IsMetBy (g : Setting) (q : Correspondence) (E : Execution) (l : Local) (left : Happened) (entry : Tree) : Type 0 where
+  pub is_alternative : Contains q.alternatives (entry_atoms q entry)
   pub are_values : AreValues g q.others (values_here g l (witnesses_of entry))
-  pub hold : (n : ℕ) (atom : Atom) → StandsAt (only_atoms q) n atom →
-      HoldsBy g E l (query_values q left (values_here g l (witnesses_of entry))) atom (item_at (routes_of entry) n)
+  pub hold : (k n : ℕ) (atom : Atom) → StandsAt (entry_atoms q entry) k (n, atom) →
+      HoldsBy g E l (query_values q left (values_here g l (witnesses_of entry))) atom (item_at (entry_routes entry) k)
 
 -- The event was recorded at a position whose visit is of this place, at the first ones of these indices.
 pub record IsExecuted (vs : List Visit) (es : List Happened) (place : ℕ) (u : List ℕ) (e : Happened) : Type 0 where

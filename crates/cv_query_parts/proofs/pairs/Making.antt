@@ -1,8 +1,7 @@
 -- What is made to test a pair, part by part.
 use Rattle.std.proofs.Common.{◌≡◌, ℕ, zero, suc, ◌+◌, ◌<◌, ◌≤◌, min, Bool, true, false, ◌||◌, List, [], ◌∷◌, ◌++◌, length, map, drop, get_or, refl, sym, ap, ap₂, ◌∙◌, arith, append_assoc, append-nil, Option, Some, None, eqb-true}
 use Rattle.std.specs.Prelude.{flat_map, replicate, ◌==◌, if◌then◌else◌, option_map}
-use Rattle.std.proofs.lemmas.List.{drop_all, drop_more, length-map}
-use Rattle.cv_pool.specs.KindTree.{KindTree}
+use Rattle.std.proofs.lemmas.List.{drop_all, length-map}
 use Rattle.cv_syntax.specs.declared.make.Make.{Make}
 use Rattle.cv_syntax.specs.declared.make.Make.TheVariants.{Nothing, Over}
 use Rattle.cv_syntax.specs.parts.Closing.{closing}
@@ -14,10 +13,8 @@ use Rattle.cv_syntax_trees.specs.Tree.{Tree, Empty, Node, chain, lone}
 use Rattle.cv_scene.specs.Late.{index_term}
 use Rattle.cv_scene.specs.lines.Given.{given_for, or_node, term_for, with_given}
 use Rattle.cv_scene.specs.Pairs.{of_second, second_indices}
-use Rattle.cv_scene.specs.Scenes.{Scene}
 use Rattle.cv_query_certificates.specs.Pairs.{equations_between}
-use Rattle.cv_query_parts.specs.declared.pairs.walk.Pairing.{Pairing}
-use Rattle.cv_query_parts.specs.pairs.Lists.{is_row, lists_of, second_head, second_name}
+use Rattle.cv_query_parts.specs.pairs.Lists.{is_row, second_head, second_name}
 
 -- terms over the names of the second copy
 

@@ -1,5 +1,5 @@
 -- Where routes end.
-use Rattle.std.proofs.Common.{subst, ◌≡◌, ℕ, suc, ◌+◌, ◌-◌, ◌<◌, ◌≤◌, ◌^◌, List, [], ◌∷◌, ◌++◌, length, map, take, drop, get_or, refl, sym, ap, ap₂, ◌∙◌, arith, Option, Some, None, append-nil, append_assoc, All, zero}
+use Rattle.std.proofs.Common.{subst, ◌≡◌, ℕ, suc, ◌+◌, ◌-◌, ◌<◌, ◌≤◌, List, [], ◌∷◌, ◌++◌, length, map, take, drop, get_or, refl, sym, ap, ◌∙◌, arith, Some, None, append-nil, append_assoc, All, zero}
 use Rattle.std.proofs.lemmas.List.{drop_all, drop_more, map-append}
 use Rattle.std.proofs.lemmas.List.Elements.{All-append, All-cons, All-nil}
 use Rattle.cv_pool.specs.KindTree.{KindTree}
@@ -13,7 +13,7 @@ use Rattle.cv_path.proofs.Bounds.{lies_somewhere}
 use Rattle.cv_path.proofs.Going.{choice_behind, less_behind}
 use Rattle.cv_scope_rules.specs.declared.position.Position.{Position}
 use Rattle.cv_scope_rules.specs.declared.position.Position.TheVariants.{Anywhere}
-use Rattle.cv_scope_rules.specs.Context.{Context, context_at, first_context, first_position, items, known_at, nothing_known, second_context, second_position}
+use Rattle.cv_scope_rules.specs.Context.{Context, context_at, first_context, first_position, items, nothing_known, second_context, second_position}
 use Rattle.cv_scene.specs.Scenes.{Scene}
 use Rattle.cv_scene.specs.Late.{index_term}
 use Rattle.cv_scene.specs.Terms.{replications_at, replications_by}

@@ -1,28 +1,24 @@
 -- A walk over the pairs of a certificate, step by step.
-use Rattle.std.proofs.Common.{arith, ◌≡◌, ℕ, suc, ◌+◌, Bool, true, false, ◌&&◌, List, [], ◌∷◌, ◌++◌, append_assoc, append-nil, refl, sym, ap, ap₂, ◌∙◌, Option, Some, None, is_some, subst, All}
+use Rattle.std.proofs.Common.{◌≡◌, ℕ, ◌+◌, ◌<◌, ◌≤◌, Bool, true, false, ◌&&◌, List, [], ◌∷◌, ◌++◌, drop, get_or, length, append_assoc, append-nil, refl, sym, ap, ap₂, ◌∙◌, Option, Some, None, is_some, subst}
 use Rattle.std.specs.Prelude.{◌==◌, if◌then◌else◌, flat_map, option_map}
+use Rattle.std.proofs.lemmas.List.{drop_all, drop_more}
 use Rattle.cv_lists.specs.Options.{first_of}
 use Rattle.cv_pool.specs.KindTree.{KindTree}
 use Rattle.cv_syntax_trees.specs.declared.head.Head.{Head}
-use Rattle.cv_syntax_trees.specs.declared.head.Head.TheVariants.{AboveRoute, AtEntry, CellRoute, HoldsRoute, NeverEntry, Pair, WithEntry}
-use Rattle.cv_syntax_trees.specs.Tree.{Tree, Empty, Node, first}
+use Rattle.cv_syntax_trees.specs.declared.head.Head.TheVariants.{Pair}
+use Rattle.cv_syntax_trees.specs.Tree.{Tree, Empty, Node}
 use Rattle.cv_syntax.specs.PoolTrees.{tree_at}
-use Rattle.cv_meaning.specs.Correspondences.{Atom, Correspondence, atom_of, atoms_of}
 use Rattle.cv_scene.specs.Derivations.{unless}
 use Rattle.cv_scene.specs.Scenes.{Scene}
-use Rattle.cv_query_certificates.specs.Alternatives.{only_atoms}
-use Rattle.cv_query_certificates.specs.EventNodes.{place_in}
 use Rattle.cv_query_certificates.specs.Failures.{first_surplus}
 use Rattle.cv_query_certificates.specs.Marks.{plain}
 use Rattle.cv_query_certificates.specs.PairParts.{first_wrong_pair, least, pair_fault, proves_pair}
-use Rattle.cv_query_certificates.specs.Pairs.{End, Needed, end_of, is_injective, needed_among, needed_at, needed_for, needed_from, needed_pairs, routes_in}
+use Rattle.cv_query_certificates.specs.Pairs.{Needed}
 use Rattle.cv_query_parts.specs.Countable.{IsCountable, IsCountablePart}
-use Rattle.cv_query_parts.specs.Said.{Above, ByCell, Holds, Never, NoWay, Nothing, Saying, Way, With, saying_of, way_of, way_seen}
 use Rattle.cv_query_parts.specs.declared.pairs.walk.PairPart.{PairPart}
 use Rattle.cv_query_parts.specs.declared.pairs.walk.Pairing.{Pairing}
 use Rattle.cv_query_parts.specs.declared.pairs.walk.Walk.{Walk}
-use Rattle.cv_query_parts.specs.pairs.Routes.{are_same, indices_by, meet, needed_by, node_of}
-use Rattle.cv_query_parts.specs.pairs.Walks.{Leads, PairItems, first_unproved, items_of_pair, needed_after, needed_at_atom, needed_behind, needed_of, needed_saying, needed_with, nothing, part_seen, wrong_of}
+use Rattle.cv_query_parts.specs.pairs.Walks.{Leads, PairItems, first_unproved, items_of_pair, needed_of, nothing, part_seen, wrong_of}
 
 -- walks
 
@@ -144,121 +140,30 @@ pub pair_countable : (part : Tree) (i : PairItems) → items_of_pair part ≡ So
 pair_countable (Node Pair p (Node h q (Node g c by))) i e n = let f : by ≡ i.by = cc in subst IsCountable f n
 pair_countable part i e n = absurd (let z : ◌≡◌ {A = Option PairItems} None (Some i) = e in cc)
 
--- an atom
+-- a loop over pairs that are needed, item by item
 
-module _ (trees : List KindTree) (c : Atom) (p : Pairing) (b : Bool) (e : b ≡ is_injective c) where
-  pub unmarked : b ≡ false → (s : Scene) (k : ℕ) → needed_at_atom s k trees c p ≡ []
-  unmarked f s k = ap (λ d. if d then (if meet (way_seen trees p.one) (way_seen trees p.other) then needed_of s k trees p ∷ [] else []) else []) (sym e ∙ f)
+module _ {A : Type 0} (trees : List KindTree) (need : A → Scene → ℕ → List Needed) (xs : List A) where
+  abbrev pub all_from : ℕ → Scene → ℕ → List Needed
+  all_from j s k = flat_map (λ x. need x s k) (drop j xs)
 
-  module _ (f : b ≡ true) (d : Bool) (g : d ≡ meet (way_seen trees p.one) (way_seen trees p.other)) where
-    marked : (s : Scene) (k : ℕ) → needed_at_atom s k trees c p ≡ (if d then needed_of s k trees p ∷ [] else [])
-    marked s k = ap₂ (λ x y. if x then (if y then needed_of s k trees p ∷ [] else []) else []) (sym e ∙ f) (sym g)
+  module _ (old : Walk) (j : ℕ) (mid new : Walk) (d : A) (o : Option ℕ) (within : j < length xs) (l : Leads trees old mid None (all_from 0) (all_from j)) where
+    one_more : (s : Scene) (k : ℕ) → all_from j s k ≡ need (get_or xs j d) s k ++ all_from (j + 1) s k
+    one_more s k = ap (flat_map (λ x. need x s k)) (drop_more xs j d within)
 
-    pub apart : d ≡ false → (s : Scene) (k : ℕ) → needed_at_atom s k trees c p ≡ []
-    apart i s k = marked s k ∙ ap (λ x. if x then needed_of s k trees p ∷ [] else []) i
+    pub next : is_some o ≡ false → Leads trees mid new o (need (get_or xs j d)) nothing → Leads trees old new None (all_from 0) (all_from (j + 1))
+    next e m =
+        goes_on trees old mid new None (all_from 0) (all_from j) (need (get_or xs j d)) (all_from (j + 1)) l one_more
+        (passes trees mid new o (need (get_or xs j d)) nothing e m)
 
-    pub together : d ≡ true → (s : Scene) (k : ℕ) → needed_at_atom s k trees c p ≡ needed_of s k trees p ∷ []
-    together i s k = marked s k ∙ ap (λ x. if x then needed_of s k trees p ∷ [] else []) i
+    pub breaks : is_some o ≡ true → Leads trees mid new o (need (get_or xs j d)) nothing → Leads trees old new o (all_from 0) nothing
+    breaks e m =
+        stops trees old new o (all_from 0) (all_from (j + 1)) e
+        (goes_on trees old mid new o (all_from 0) (all_from j) (need (get_or xs j d)) (all_from (j + 1)) l one_more m)
 
--- routes, atom by atom
-
-abbrev end_by : Scene → Way → Option End
-end_by s (Above q by) = Some (record { node = q; indices = indices_by s (Above q by) })
-end_by s (ByCell c q by) = Some (record { node = q; indices = indices_by s (ByCell c q by) })
-end_by s w = None
-
-end_way : (s : Scene) (route : Tree) → end_of s route ≡ end_by s (way_of route)
-end_way s (Node AboveRoute q by) = refl
-end_way s (Node CellRoute c Empty) = refl
-end_way s (Node CellRoute c (Node h q by)) = refl
-end_way s (Node HoldsRoute by e) = refl
-end_way s route = refl
-
-module _ (s : Scene) (k p q c : ℕ) where
-  met_ways : (v w : Way) → needed_at s k p q c (end_by s v) (end_by s w) ≡ (if meet v w then needed_by s k p q c v w ∷ [] else [])
-  met_ways (Above m by) (Above n on) = refl
-  met_ways (Above m by) (ByCell x n on) = refl
-  met_ways (Above m by) (Holds on) = refl
-  met_ways (Above m by) NoWay = refl
-  met_ways (ByCell y m by) (Above n on) = refl
-  met_ways (ByCell y m by) (ByCell x n on) = refl
-  met_ways (ByCell y m by) (Holds on) = refl
-  met_ways (ByCell y m by) NoWay = refl
-  met_ways (Holds by) w = refl
-  met_ways NoWay w = refl
-
-module _ (trees : List KindTree) (s : Scene) (k p q : ℕ) (atoms routes others : Tree) where
-  pub no_atoms : (c : ℕ) → atoms ≡ Empty → needed_for s k p q c (atoms_of atoms) routes others ≡ []
-  no_atoms c e = ap (λ t. needed_for s k p q c (atoms_of t) routes others) e
-
-  module _ (f : Head) (a behind : Tree) (e : atoms ≡ Node f a behind) where
-    pub no_routes : (c : ℕ) → routes ≡ Empty → needed_for s k p q c (atoms_of atoms) routes others ≡ []
-    no_routes c i = ap₂ (λ t u. needed_for s k p q c (atoms_of t) u others) e i
-
-    module _ (h : Head) (r rs : Tree) (i : routes ≡ Node h r rs) where
-      pub no_others : (c : ℕ) → others ≡ Empty → needed_for s k p q c (atoms_of atoms) routes others ≡ []
-      no_others c j = ap₂ (λ t u. needed_for s k p q c (atoms_of t) u others) e i ∙ ap (needed_for s k p q c (atom_of a ∷ atoms_of behind) (Node h r rs)) j
-
-      pub atom_more : (g : Head) (t ts : Tree) → others ≡ Node g t ts → (n : Pairing) (x : Atom) → x ≡ atom_of a → way_seen trees n.one ≡ way_of r → way_seen trees n.other ≡ way_of t → n.first ≡ p → n.second ≡ q
-          → needed_for s k p q n.atom (atoms_of atoms) routes others ≡ needed_at_atom s k trees x n ++ needed_for s k p q (n.atom + 1) (atoms_of behind) rs ts
-      atom_more g t ts j n x l v w y z =
-          let c = n.atom in
-          let next : suc c ≡ c + 1 = omega arith in
-          ap₂ (λ u o. needed_for s k p q c (atoms_of u) o others) e i
-          ∙ (ap (needed_for s k p q c (atom_of a ∷ atoms_of behind) (Node h r rs)) j
-          ∙ ap₂ (λ xs m. xs ++ needed_for s k p q m (atoms_of behind) rs ts)
-          (ap₂ (λ u o. if is_injective (atom_of a) then needed_at s k p q c u o else []) (end_way s r) (end_way s t)
-          ∙ (ap (λ xs. if is_injective (atom_of a) then xs else []) (met_ways s k p q c (way_of r) (way_of t))
-          ∙ (ap₂ (λ u o. if is_injective (atom_of a) then (if meet u o then needed_by s k p q c u o ∷ [] else []) else []) (sym v) (sym w)
-          ∙ (ap (λ u. if is_injective u then (if meet (way_seen trees n.one) (way_seen trees n.other) then needed_by s k p q c (way_seen trees n.one) (way_seen trees n.other) ∷ [] else []) else []) (sym l)
-          ∙ ap₂ (λ m o. if is_injective x then (if meet (way_seen trees n.one) (way_seen trees n.other) then needed_by s k m o c (way_seen trees n.one) (way_seen trees n.other) ∷ [] else []) else []) (sym y) (sym z)))))
-          next)
-
--- entries, one by one
-
-module _ (s : Scene) (k : ℕ) (atoms : List Atom) where
-  pub with_entry : (p : ℕ) (routes part n ws others : Tree) (x : Saying) (q : ℕ) → x ≡ saying_of part → x ≡ With n ws others → q ≡ place_in n → needed_with s k atoms p routes part ≡ needed_for s k p q 1 atoms routes others
-  with_entry p routes part n ws others x q e f g = ap (needed_saying s k atoms p routes) (sym e ∙ f) ∙ ap (λ m. needed_for s k p m 1 atoms routes others) (sym g)
-
-  pub no_with : (p : ℕ) (routes part : Tree) (x y : Saying) → x ≡ saying_of part → x ≡ y → needed_saying s k atoms p routes y ≡ [] → needed_with s k atoms p routes part ≡ []
-  no_with p routes part x y e f g = ap (needed_saying s k atoms p routes) (sym e ∙ f) ∙ g
-
-  pub after_entry : (part n ws routes : Tree) (es : List (ℕ × Tree)) (x : Saying) (p : ℕ) → x ≡ saying_of part → x ≡ With n ws routes → p ≡ place_in n → needed_behind s k atoms part es ≡ needed_from s k atoms (p, routes) es
-  after_entry part n ws routes es x p e f g = ap (λ y. needed_after s k atoms y es) (sym e ∙ f) ∙ ap (λ m. needed_from s k atoms (m, routes) es) (sym g)
-
-  pub no_after : (part : Tree) (es : List (ℕ × Tree)) (x y : Saying) → x ≡ saying_of part → x ≡ y → needed_after s k atoms y es ≡ [] → needed_behind s k atoms part es ≡ []
-  no_after part es x y e f g = ap (λ z. needed_after s k atoms z es) (sym e ∙ f) ∙ g
-
-  from_more : (e : ℕ × Tree) (h : Head) (part more : Tree) → needed_from s k atoms e (routes_in (Node h part more)) ≡ needed_with s k atoms e.0 e.1 part ++ needed_from s k atoms e (routes_in more)
-  from_more e h (Node AtEntry n (Node NeverEntry by x)) more = refl
-  from_more e h (Node AtEntry n (Node WithEntry ws routes)) more = refl
-  from_more e h (Node AtEntry n t) more = refl
-  from_more e h part more = refl
-
-  pub entry_more : (p : ℕ) (routes t : Tree) (h : Head) (part more : Tree) → t ≡ Node h part more → needed_from s k atoms (p, routes) (routes_in t) ≡ needed_with s k atoms p routes part ++ needed_from s k atoms (p, routes) (routes_in more)
-  entry_more p routes t h part more e = ap (λ u. needed_from s k atoms (p, routes) (routes_in u)) e ∙ from_more (p, routes) h part more
-
-  pub no_entries : (p : ℕ) (routes t : Tree) → t ≡ Empty → needed_from s k atoms (p, routes) (routes_in t) ≡ []
-  no_entries p routes t e = ap (λ u. needed_from s k atoms (p, routes) (routes_in u)) e
-
-  among_more : (h : Head) (part more : Tree) → needed_among s k atoms (routes_in (Node h part more)) ≡ needed_behind s k atoms part (routes_in (Node h part more)) ++ needed_among s k atoms (routes_in more)
-  among_more h (Node AtEntry n (Node NeverEntry by x)) more = refl
-  among_more h (Node AtEntry n (Node WithEntry ws routes)) more = refl
-  among_more h (Node AtEntry n t) more = refl
-  among_more h part more = refl
-
-  pub first_more : (t u : Tree) (h : Head) (part more : Tree) → t ≡ u → u ≡ Node h part more → needed_among s k atoms (routes_in t) ≡ needed_behind s k atoms part (routes_in u) ++ needed_among s k atoms (routes_in more)
-  first_more t u h part more f e =
-      ap (λ v. needed_among s k atoms (routes_in v)) (f ∙ e)
-      ∙ (among_more h part more ∙ ap (λ v. needed_behind s k atoms part (routes_in v) ++ needed_among s k atoms (routes_in more)) (sym e))
-
-  pub none_among : (t : Tree) → t ≡ Empty → needed_among s k atoms (routes_in t) ≡ []
-  none_among t e = ap (λ u. needed_among s k atoms (routes_in u)) e
+  pub ends_all : (old new : Walk) (j : ℕ) → length xs ≤ j → Leads trees old new None (all_from 0) (all_from j) → Leads trees old new None (all_from 0) nothing
+  ends_all old new j l m = ends trees old new (all_from 0) (all_from j) m (λ s k. ap (flat_map (λ x. need x s k)) (drop_all j xs l))
 
 -- all of it
-
-pub marked_pairs : (s : Scene) (k : ℕ) (q : Correspondence) (parts : Tree) (atoms : List Atom) → q.inj ≡ true → only_atoms q ≡ atoms → needed_pairs s k q parts ≡ needed_among s k atoms (routes_in parts)
-marked_pairs s k q parts atoms e f = ap (λ b. if b then needed_among s k (only_atoms q) (routes_in parts) else []) e ∙ ap (λ xs. needed_among s k xs (routes_in parts)) f
 
 surplus : (s : Scene) (k : ℕ) (ds : List ℕ) (t : Tree) → first_wrong_pair s k ds [] t ≡ first_surplus t
 surplus s k ds Empty = refl

@@ -10,7 +10,7 @@ use Rattle.cv_scene.specs.Late.{index_term}
 use Rattle.cv_scene.specs.Pairs.{of_second}
 use Rattle.cv_scene.specs.Scenes.{Scene}
 use Rattle.cv_scene.specs.Terms.{replications_at}
-use Rattle.cv_query_certificates.specs.Pairs.{Needed, equations_between}
+use Rattle.cv_query_certificates.specs.Pairs.{End, Needed, equations_between}
 use Rattle.cv_query_parts.specs.Said.{Way, Above, ByCell}
 use Rattle.cv_query_parts.specs.declared.pairs.routes.Index.{Index}
 use Rattle.cv_query_parts.specs.declared.pairs.routes.Index.TheVariants.{Own, Term}
@@ -34,6 +34,11 @@ abbrev pub indices_by : Scene → Way → List Tree
 indices_by s (Above q by) = map index_term (replications_at s q)
 indices_by s (ByCell c q by) = take (length (replications_at s q)) (items (first c))
 indices_by s w = []
+
+abbrev pub end_by : Scene → Way → Option End
+end_by s (Above q by) = Some (record { node = q; indices = indices_by s (Above q by) })
+end_by s (ByCell c q by) = Some (record { node = q; indices = indices_by s (ByCell c q by) })
+end_by s w = None
 
 abbrev pub needed_by : Scene → (k p q atom : ℕ) → (one other : Way) → Needed
 needed_by s k p q c v w =

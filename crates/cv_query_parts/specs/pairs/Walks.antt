@@ -1,21 +1,22 @@
 -- The pairs of a certificate, gone over in the order in which they are needed. A walk meets those whose places and atoms are right; which of
 -- them isn't derived is another question.
-use Rattle.std.specs.Prelude.{◌≡◌, ℕ, Bool, ◌&&◌, ◌==◌, if◌then◌else◌, All, List, [], ◌∷◌, ◌++◌, length, Option, Some, None}
+use Rattle.std.specs.Prelude.{◌≡◌, ℕ, Bool, ◌&&◌, ◌==◌, if◌then◌else◌, All, List, [], ◌∷◌, ◌++◌, flat_map, length, Option, Some, None}
 use Rattle.cv_lists.specs.Options.{first_of}
 use Rattle.cv_pool.specs.KindTree.{KindTree}
 use Rattle.cv_pool.specs.Nodes.{ChildBelow}
 use Rattle.cv_syntax_trees.specs.declared.head.Head.TheVariants as head
 use Rattle.cv_syntax_trees.specs.Tree.{Tree, Node}
 use Rattle.cv_syntax.specs.PoolTrees.{tree_at}
-use Rattle.cv_meaning.specs.Correspondences.{Atom}
 use Rattle.cv_scene.specs.Derivations.{unless}
 use Rattle.cv_scene.specs.Scenes.{Scene}
 use Rattle.cv_query_certificates.specs.EventNodes.{place_in}
 use Rattle.cv_query_certificates.specs.Marks.{plain}
 use Rattle.cv_query_certificates.specs.PairParts.{first_wrong_pair, proves_pair}
-use Rattle.cv_query_certificates.specs.Pairs.{Needed, is_injective, needed_for, needed_from}
+use Rattle.cv_query_certificates.specs.Pairs.{Needed}
 use Rattle.cv_query_parts.specs.Countable.{AreCountableParts, IsCountable}
-use Rattle.cv_query_parts.specs.Said.{IsRouteBelow, Saying, Never, Nothing, With, saying_of, way_seen}
+use Rattle.cv_query_parts.specs.Said.{IsRouteBelow, way_seen}
+use Rattle.cv_query_parts.specs.declared.pairs.marked.MarkedEntry.{MarkedEntry}
+use Rattle.cv_query_parts.specs.declared.pairs.marked.MarkedRoute.{MarkedRoute}
 use Rattle.cv_query_parts.specs.declared.pairs.walk.PairPart.{PairPart}
 use Rattle.cv_query_parts.specs.declared.pairs.walk.Pairing.{Pairing}
 use Rattle.cv_query_parts.specs.declared.pairs.walk.Walk.{Walk}
@@ -66,28 +67,29 @@ Leads trees old new stopped first rest =
 abbrev pub nothing : Scene → ℕ → List Needed
 nothing s k = []
 
--- of an atom, where its routes may end at one execution
-abbrev pub needed_at_atom : Scene → (k : ℕ) → List KindTree → Atom → Pairing → List Needed
-needed_at_atom s k trees c p =
-    if is_injective c then (if meet (way_seen trees p.one) (way_seen trees p.other) then needed_of s k trees p ∷ [] else []) else []
+-- of two routes, where both are for one atom and end at one node
+abbrev pub needed_of_routes : Scene → (k : ℕ) → List KindTree → (p q : ℕ) → (one other : MarkedRoute) → List Needed
+needed_of_routes s k trees p q r t =
+    if r.atom == t.atom && meet (way_seen trees r.route) (way_seen trees t.route)
+    then needed_by s k p q r.atom (way_seen trees r.route) (way_seen trees t.route) ∷ []
+    else []
 
--- of a place and an entry
-abbrev pub needed_saying : Scene → (k : ℕ) → List Atom → (first : ℕ) → (routes : Tree) → Saying → List Needed
-needed_saying s k atoms p routes (With n ws others) = needed_for s k p (place_in n) 1 atoms routes others
-needed_saying s k atoms p routes (Never n by) = []
-needed_saying s k atoms p routes Nothing = []
+-- of a route and each of these
+abbrev pub needed_of_route : Scene → (k : ℕ) → List KindTree → (p q : ℕ) → MarkedRoute → List MarkedRoute → List Needed
+needed_of_route s k trees p q r ts = flat_map (needed_of_routes s k trees p q r) ts
 
-abbrev pub needed_with : Scene → (k : ℕ) → List Atom → (first : ℕ) → (routes part : Tree) → List Needed
-needed_with s k atoms p routes part = needed_saying s k atoms p routes (saying_of part)
+-- of two entries
+abbrev pub needed_of_entries : Scene → (k : ℕ) → List KindTree → (one other : MarkedEntry) → List Needed
+needed_of_entries s k trees e f = flat_map (λ (r : MarkedRoute). needed_of_route s k trees e.place f.place r f.routes.items) e.routes.items
 
--- of an entry and all of these
-abbrev pub needed_after : Scene → (k : ℕ) → List Atom → Saying → List (ℕ × Tree) → List Needed
-needed_after s k atoms (With n ws routes) es = needed_from s k atoms (place_in n, routes) es
-needed_after s k atoms (Never n by) es = []
-needed_after s k atoms Nothing es = []
+-- of an entry and each of these
+abbrev pub needed_of_entry : Scene → (k : ℕ) → List KindTree → MarkedEntry → List MarkedEntry → List Needed
+needed_of_entry s k trees e es = flat_map (needed_of_entries s k trees e) es
 
-abbrev pub needed_behind : Scene → (k : ℕ) → List Atom → (part : Tree) → List (ℕ × Tree) → List Needed
-needed_behind s k atoms part es = needed_after s k atoms (saying_of part) es
+-- of each entry, with itself and those behind it
+abbrev pub needed_of_all : Scene → (k : ℕ) → List KindTree → List MarkedEntry → List Needed
+needed_of_all s k trees [] = []
+needed_of_all s k trees (e ∷ es) = needed_of_entry s k trees e (e ∷ es) ++ needed_of_all s k trees es
 
 -- pairs that were met
 

@@ -144,7 +144,7 @@ fn push_equation(
 }
 
 /// Makes the equations of indices and of those of the second copy, one by one.
-fn push_equations(
+pub(crate) fn push_equations(
     makes: &mut Vec<Make>,
     pool: &Pool,
     names: &Names,
@@ -189,7 +189,7 @@ fn push_given(
 }
 
 /// Makes the list of indices.
-fn push_indices(makes: &mut Vec<Make>, rows: &[(u32, u32)]) -> Result<(), AllocError>
+pub(crate) fn push_indices(makes: &mut Vec<Make>, rows: &[(u32, u32)]) -> Result<(), AllocError>
     ensures { OnOk result (makes.new.items
         ≡ makes.old.items ++ postorder (chain (map index_term rows.now))) }
 {

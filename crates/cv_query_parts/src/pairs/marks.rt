@@ -1,4 +1,4 @@
-ghost use Rattle.std.specs.Prelude.{◌≡◌, ◌+◌, ◌++◌, ◌<◌, IfOk, List, OnOk, Some, length};
+ghost use Rattle.std.specs.Prelude.{◌≡◌, ◌+◌, ◌++◌, ◌<◌, ◌≤◌, ◌^◌, IfErr, IfOk, List, OnOk, Some, length};
 ghost use Rattle.std.specs.Option.{option_copied};
 ghost use Rattle.cv_pool.specs.KindTree.{KindTree};
 ghost use Rattle.cv_pool.specs.Nodes.{ChildBelow};
@@ -72,11 +72,15 @@ fn declared_end(decls: &Decls) -> u64
     end
 }
 
-/// What is added to the names of the second copy, for a certificate with these parts, where a pool can have such names.
+/// What is added to the names of the second copy, for a certificate with these parts. A pool has no names from 2 ^ 32 on.
 pub fn raise_of(work: &Work, game: NodeId, parts: Option<NodeId>) -> Result<u32, AllocError>
     requires game { game.0 < length work.now.pool.trees }
     requires parts { ChildBelow (length work.now.pool.trees) parts }
-    ensures { IfOk result (λ k. k ≡ marks.raise_of (scene_of work.now.pool work.now.decls game)
+    ensures raise { IfOk result (λ k. k
+        ≡ marks.raise_of (scene_of work.now.pool work.now.decls game)
+        (tree_at work.now.pool.trees parts)) }
+    ensures large { IfErr result (λ error. 2 ^ 32
+        ≤ marks.raise_of (scene_of work.now.pool work.now.decls game)
         (tree_at work.now.pool.trees parts)) }
 {
     let named = names_end(&work.pool, Some(game)).max(names_end(&work.pool, parts));
@@ -87,9 +91,10 @@ pub fn raise_of(work: &Work, game: NodeId, parts: Option<NodeId>) -> Result<u32,
     Ok(raise as u32)
 }
 
-/// A name that is raised by a number, where a pool can have it.
+/// A name that is raised by a number. A pool has no names from 2 ^ 32 on.
 pub(crate) fn raised(k: u32, i: u32) -> Result<u32, AllocError>
-    ensures { IfOk result (λ j. j ≡ i + k) }
+    ensures name { IfOk result (λ j. j ≡ i + k) }
+    ensures large { IfErr result (λ error. 2 ^ 32 ≤ i + k) }
 {
     if k > u32::MAX - i {
         return Err(AllocError);

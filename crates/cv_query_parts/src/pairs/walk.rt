@@ -3,19 +3,19 @@ ghost use Rattle.cv_pool.specs.KindTree.{KindTree};
 ghost use Rattle.cv_scene.specs.Scenes.{Scene};
 ghost use Rattle.cv_pool.specs.Nodes.{ChildBelow};
 ghost use Rattle.cv_syntax.specs.PoolTrees.{tree_at};
-ghost use Rattle.cv_meaning.specs.Correspondences.{atoms_of};
 ghost use Rattle.cv_query_certificates.specs.PairParts.{first_wrong_pair, least};
-ghost use Rattle.cv_query_certificates.specs.Pairs as pairs;
-ghost use Rattle.cv_query_certificates.specs.Pairs.{needed_among, needed_for, needed_from, needed_pairs, routes_in};
+ghost use Rattle.cv_query_certificates.specs.Pairs.{needed_pairs};
 ghost use Rattle.cv_lists.specs.Options.{first_of};
 ghost use Rattle.cv_query_parts.specs.Countable.{AreCountableParts};
-ghost use Rattle.cv_query_parts.specs.Said.{IsAtomBelow, IsRouteBelow, atom_seen, way_seen};
+ghost use Rattle.cv_query_parts.specs.Said.{IsRouteBelow};
 ghost use Rattle.cv_query_parts.specs.Views.{IsAskedBelow, asked_of};
-ghost use Rattle.cv_query_parts.specs.pairs.Walks.{IsMet, IsPartBelow, IsWalked, Leads, first_unproved, is_that, items_of_pair, needed_at_atom, needed_behind, needed_of, needed_with, nothing, part_seen};
+ghost use Rattle.cv_query_parts.specs.pairs.Marked.{IsEntryBelow, IsMarkedBelow};
+ghost use Rattle.cv_query_parts.specs.pairs.Walks.{IsMet, IsPartBelow, IsWalked, Leads, first_unproved, is_that, items_of_pair, needed_of, needed_of_all, needed_of_entries, needed_of_entry, needed_of_route, needed_of_routes, nothing, part_seen};
 
+use crate::pairs::marked::{MarkedEntry, MarkedRoute, marked_entries};
 use crate::pairs::routes::meet;
 use crate::parts::{first_surplus, place_in};
-use crate::views::{Asked, Atom, Entry, Route, atom_of, entry_of, route_of};
+use crate::views::{Asked, Route};
 use cv_syntax::{Head, NodeId, Pool, read_node};
 use std::alloc::{AllocError, Global};
 
@@ -117,219 +117,136 @@ fn take(pool: &Pool, walk: &mut Walk, needed: Pairing) -> Result<Option<u64>, Al
     Ok(None)
 }
 
-/// Whether an atom is marked `inj`.
-fn is_injective(atom: Atom) -> bool
-    ensures { (trees : List KindTree) → result ≡ pairs.is_injective (atom_seen trees atom) }
-{
-    match atom {
-        Atom::Event { inj, .. } => inj,
-        Atom::Term(_) => false,
-    }
-}
-
-/// Goes over the part for an atom, where its routes at two places need a pair.
-fn walk_atom(
-    pool: &Pool,
-    walk: &mut Walk,
-    atom: Atom,
-    needed: Pairing,
-) -> Result<Option<u64>, AllocError>
-    requires walked { IsWalked pool.now.trees walk.old }
-    requires one { IsRouteBelow (length pool.now.trees) needed.one }
-    requires other { IsRouteBelow (length pool.now.trees) needed.other }
-    ensures leads { IfOk result (λ stopped. Leads pool.now.trees walk.old walk.new stopped
-        (λ s k. needed_at_atom s k pool.now.trees (atom_seen pool.now.trees atom) needed)
-        nothing) }
-    ensures walked { OnOk result (IsWalked pool.now.trees walk.new) }
-{
-    if !is_injective(atom) {
-        return Ok(None);
-    }
-    if !meet(needed.one, needed.other) {
-        return Ok(None);
-    }
-    take(pool, walk, needed)
-}
-
-/// Goes over the parts for the routes at two places, atom by atom.
-#[tactic(auto, using(crate::proofs::Said::sayings))]
-fn walk_atoms(
+/// Goes over the part for two routes, where they need a pair.
+fn walk_both(
     pool: &Pool,
     walk: &mut Walk,
     first: u64,
     second: u64,
-    atoms: Option<NodeId>,
-    routes: Option<NodeId>,
-    others: Option<NodeId>,
+    one: MarkedRoute,
+    other: MarkedRoute,
 ) -> Result<Option<u64>, AllocError>
     requires walked { IsWalked pool.now.trees walk.old }
-    requires atoms { ChildBelow (length pool.now.trees) atoms }
-    requires routes { ChildBelow (length pool.now.trees) routes }
-    requires others { ChildBelow (length pool.now.trees) others }
+    requires one { IsMarkedBelow (length pool.now.trees) one }
+    requires other { IsMarkedBelow (length pool.now.trees) other }
     ensures leads { IfOk result (λ stopped. Leads pool.now.trees walk.old walk.new stopped
-        (λ s k. needed_for s k first second 1 (atoms_of (tree_at pool.now.trees atoms))
-        (tree_at pool.now.trees routes) (tree_at pool.now.trees others)) nothing) }
+        (λ s k. needed_of_routes s k pool.now.trees first second one other) nothing) }
     ensures walked { OnOk result (IsWalked pool.now.trees walk.new) }
 {
-    let mut count = 1;
-    let mut at = atoms;
-    let mut here = routes;
-    let mut there = others;
-    'atoms: while let Some(m) = at {
-        let asked = read_node(pool, m);
-        let Some(x) = here else {
-            return Ok(None);
-        };
-        let Some(y) = there else {
-            return Ok(None);
-        };
-        let one = read_node(pool, x);
-        let other = read_node(pool, y);
-        let needed = Pairing {
-            first,
-            second,
-            atom: count,
-            one: route_of(pool, one.first),
-            other: route_of(pool, other.first),
-            by: None,
-        };
-        let stopped = walk_atom(pool, walk, atom_of(pool, asked.first), needed)?;
+    if one.atom != other.atom {
+        return Ok(None);
+    }
+    if !meet(one.route, other.route) {
+        return Ok(None);
+    }
+    let needed = Pairing {
+        first,
+        second,
+        atom: u64::from(one.atom),
+        one: one.route,
+        other: other.route,
+        by: None,
+    };
+    take(pool, walk, needed)
+}
+
+/// Goes over the parts for a route and each of the others.
+fn walk_others(
+    pool: &Pool,
+    walk: &mut Walk,
+    first: u64,
+    second: u64,
+    one: MarkedRoute,
+    others: &[MarkedRoute],
+) -> Result<Option<u64>, AllocError>
+    requires walked { IsWalked pool.now.trees walk.old }
+    requires one { IsMarkedBelow (length pool.now.trees) one }
+    requires others { All (IsMarkedBelow (length pool.now.trees)) others.now }
+    ensures leads { IfOk result (λ stopped. Leads pool.now.trees walk.old walk.new stopped
+        (λ s k. needed_of_route s k pool.now.trees first second one others.now) nothing) }
+    ensures walked { OnOk result (IsWalked pool.now.trees walk.new) }
+{
+    'others: for j in 0..others.len() {
+        let stopped = walk_both(pool, walk, first, second, one, others[j])?;
         if stopped.is_some() {
             return Ok(stopped);
         }
-        count += 1;
-        at = asked.second;
-        here = one.second;
-        there = other.second;
     }
     Ok(None)
 }
 
-/// Goes over the parts for the routes at a place and those of an entry.
-fn walk_entry(
-    pool: &Pool,
-    walk: &mut Walk,
-    first: u64,
-    routes: Option<NodeId>,
-    atoms: Option<NodeId>,
-    part: Option<NodeId>,
-) -> Result<Option<u64>, AllocError>
-    requires walked { IsWalked pool.now.trees walk.old }
-    requires routes { ChildBelow (length pool.now.trees) routes }
-    requires atoms { ChildBelow (length pool.now.trees) atoms }
-    requires part { ChildBelow (length pool.now.trees) part }
-    ensures leads { IfOk result (λ stopped. Leads pool.now.trees walk.old walk.new stopped
-        (λ s k. needed_with s k (atoms_of (tree_at pool.now.trees atoms)) first
-        (tree_at pool.now.trees routes) (tree_at pool.now.trees part)) nothing) }
-    ensures walked { OnOk result (IsWalked pool.now.trees walk.new) }
-{
-    match entry_of(pool, part) {
-        Entry::With {
-            place,
-            routes: others,
-            ..
-        } => walk_atoms(
-            pool,
-            walk,
-            first,
-            place_in(pool, place),
-            atoms,
-            routes,
-            others,
-        ),
-        Entry::Never { .. } => Ok(None),
-        Entry::Other => Ok(None),
-    }
-}
-
-/// Goes over the parts for the routes at a place and those of each of the entries.
-#[tactic(auto, using(crate::proofs::Said::sayings))]
+/// Goes over the parts for two entries.
 fn walk_entries(
     pool: &Pool,
     walk: &mut Walk,
-    first: u64,
-    routes: Option<NodeId>,
-    atoms: Option<NodeId>,
-    parts: Option<NodeId>,
+    entry: &MarkedEntry,
+    other: &MarkedEntry,
 ) -> Result<Option<u64>, AllocError>
     requires walked { IsWalked pool.now.trees walk.old }
-    requires routes { ChildBelow (length pool.now.trees) routes }
-    requires atoms { ChildBelow (length pool.now.trees) atoms }
-    requires parts { ChildBelow (length pool.now.trees) parts }
+    requires entry { IsEntryBelow (length pool.now.trees) entry.now }
+    requires other { IsEntryBelow (length pool.now.trees) other.now }
     ensures leads { IfOk result (λ stopped. Leads pool.now.trees walk.old walk.new stopped
-        (λ s k. needed_from s k (atoms_of (tree_at pool.now.trees atoms))
-        (first, tree_at pool.now.trees routes) (routes_in (tree_at pool.now.trees parts)))
-        nothing) }
+        (λ s k. needed_of_entries s k pool.now.trees entry.now other.now) nothing) }
     ensures walked { OnOk result (IsWalked pool.now.trees walk.new) }
 {
-    let mut at = parts;
-    'parts: while let Some(n) = at {
-        let cell = read_node(pool, n);
-        let stopped = walk_entry(pool, walk, first, routes, atoms, cell.first)?;
+    let routes = entry.routes.as_slice();
+    let others = other.routes.as_slice();
+    'routes: for j in 0..routes.len() {
+        let stopped = walk_others(pool, walk, entry.place, other.place, routes[j], others)?;
         if stopped.is_some() {
             return Ok(stopped);
         }
-        at = cell.second;
     }
     Ok(None)
 }
 
-/// Goes over the parts for the routes of the first of the entries, with those of each of them.
-fn walk_first(
+/// Goes over the parts for an entry and each of these.
+fn walk_entry(
     pool: &Pool,
     walk: &mut Walk,
-    atoms: Option<NodeId>,
-    part: Option<NodeId>,
-    parts: Option<NodeId>,
+    entry: &MarkedEntry,
+    entries: &[MarkedEntry],
 ) -> Result<Option<u64>, AllocError>
     requires walked { IsWalked pool.now.trees walk.old }
-    requires atoms { ChildBelow (length pool.now.trees) atoms }
-    requires part { ChildBelow (length pool.now.trees) part }
-    requires parts { ChildBelow (length pool.now.trees) parts }
+    requires entry { IsEntryBelow (length pool.now.trees) entry.now }
+    requires entries { All (IsEntryBelow (length pool.now.trees)) entries.now }
     ensures leads { IfOk result (λ stopped. Leads pool.now.trees walk.old walk.new stopped
-        (λ s k. needed_behind s k (atoms_of (tree_at pool.now.trees atoms))
-        (tree_at pool.now.trees part) (routes_in (tree_at pool.now.trees parts))) nothing) }
+        (λ s k. needed_of_entry s k pool.now.trees entry.now entries.now) nothing) }
     ensures walked { OnOk result (IsWalked pool.now.trees walk.new) }
 {
-    match entry_of(pool, part) {
-        Entry::With { place, routes, .. } => {
-            walk_entries(pool, walk, place_in(pool, place), routes, atoms, parts)
-        }
-        Entry::Never { .. } => Ok(None),
-        Entry::Other => Ok(None),
-    }
-}
-
-/// Goes over the parts for all entries.
-#[tactic(auto, using(crate::proofs::Said::sayings))]
-fn walk_all(
-    pool: &Pool,
-    walk: &mut Walk,
-    atoms: Option<NodeId>,
-    parts: Option<NodeId>,
-) -> Result<Option<u64>, AllocError>
-    requires walked { IsWalked pool.now.trees walk.old }
-    requires atoms { ChildBelow (length pool.now.trees) atoms }
-    requires parts { ChildBelow (length pool.now.trees) parts }
-    ensures leads { IfOk result (λ stopped. Leads pool.now.trees walk.old walk.new stopped
-        (λ s k. needed_among s k (atoms_of (tree_at pool.now.trees atoms))
-        (routes_in (tree_at pool.now.trees parts))) nothing) }
-    ensures walked { OnOk result (IsWalked pool.now.trees walk.new) }
-{
-    let mut at = parts;
-    'parts: while let Some(n) = at {
-        let cell = read_node(pool, n);
-        let stopped = walk_first(pool, walk, atoms, cell.first, at)?;
+    'entries: for j in 0..entries.len() {
+        let stopped = walk_entries(pool, walk, entry, &entries[j])?;
         if stopped.is_some() {
             return Ok(stopped);
         }
-        at = cell.second;
+    }
+    Ok(None)
+}
+
+/// Goes over the parts for all entries.
+fn walk_all(
+    pool: &Pool,
+    walk: &mut Walk,
+    entries: &[MarkedEntry],
+) -> Result<Option<u64>, AllocError>
+    requires walked { IsWalked pool.now.trees walk.old }
+    requires entries { All (IsEntryBelow (length pool.now.trees)) entries.now }
+    ensures leads { IfOk result (λ stopped. Leads pool.now.trees walk.old walk.new stopped
+        (λ s k. needed_of_all s k pool.now.trees entries.now) nothing) }
+    ensures walked { OnOk result (IsWalked pool.now.trees walk.new) }
+{
+    'entries: for j in 0..entries.len() {
+        let stopped = walk_entry(pool, walk, &entries[j], &entries[j..])?;
+        if stopped.is_some() {
+            return Ok(stopped);
+        }
     }
     Ok(None)
 }
 
 /// Goes over the parts for the pairs that are needed: none without `inj` on the left.
 fn walk_needed(
+    alloc: Global,
     pool: &Pool,
     walk: &mut Walk,
     asked: &Asked,
@@ -346,7 +263,8 @@ fn walk_needed(
     if !asked.inj {
         return Ok(None);
     }
-    let stopped = walk_all(pool, walk, asked.atoms, parts)?;
+    let entries = marked_entries(alloc, pool, asked, parts)?;
+    let stopped = walk_all(pool, walk, entries.as_slice())?;
     Ok(stopped)
 }
 
@@ -373,7 +291,7 @@ pub fn walk_pairs(
         met: Vec::new(alloc),
         left,
     };
-    let stopped = walk_needed(pool, &mut walk, asked, parts)?;
+    let stopped = walk_needed(alloc, pool, &mut walk, asked, parts)?;
     let Walk { met, left } = walk;
     match stopped {
         Some(place) => Ok(Walked {

@@ -16,7 +16,6 @@ unwritten_either status.Words = inr refl
 unwritten_either status.Read = inr refl
 unwritten_either status.Write = inr refl
 unwritten_either (status.Limit w) = inr refl
-unwritten_either status.Unbuilt = inr refl
 
 pub unwritten_memory : (s : Status) → s ≡ status.Memory → unwritten s ≡ status.Memory
 unwritten_memory s e = subst (λ x. unwritten x ≡ status.Memory) (sym e) refl
@@ -31,7 +30,6 @@ unwritten_ends status.Words n = absurd (n refl)
 unwritten_ends status.Read n = absurd (n refl)
 unwritten_ends status.Write n = absurd (n refl)
 unwritten_ends (status.Limit w) n = absurd (n refl)
-unwritten_ends status.Unbuilt n = absurd (n refl)
 
 -- nothing is a front of each text
 pub takes_nothing : (before after : Option (List ℕ)) (text : List ℕ) → after ≡ before → TakesFront before after text

@@ -1,7 +1,7 @@
 -- What each position asks of the tree that stands there, and the names that are bound above it.
 use Rattle.std.specs.Prelude.{ℕ, Bool, true, false, ◌==◌, not, if◌then◌else◌, List, [], ◌∷◌, Option, Some, None}
 use Rattle.cv_syntax_trees.specs.declared.head.Head.{Head}
-use Rattle.cv_syntax_trees.specs.declared.head.Head.TheVariants.{Par, Repl, In, Out, Event, New, Let, If, Find, Branch, Read, Apply, Eq, And, Or, Not, Cons, Binder, Query, Occurs, OccursOnce}
+use Rattle.cv_syntax_trees.specs.declared.head.Head.TheVariants.{Par, Repl, In, Out, Event, New, Let, If, Find, Branch, Read, Apply, Eq, And, Or, Not, Cons, Binder, Query, Occurs, OccursOnce, SomeOf}
 use Rattle.cv_syntax_trees.specs.Declarations.{Declaration}
 use Rattle.cv_syntax_trees.specs.Tree.{Tree, Empty, Node}
 use Rattle.cv_scope_rules.specs.declared.typing.form.Form.{Form}
@@ -92,6 +92,7 @@ query_wants h = nothing
 
 abbrev pub atom_wants : List Declaration → Head → Want × Want
 atom_wants ds Cons = (Atoms, Atoms)
+atom_wants ds SomeOf = (Atoms, Atoms)
 atom_wants ds (Occurs v) = (Messages (event_in ds v), NoTerms)
 atom_wants ds (OccursOnce v) = (Messages (event_in ds v), NoTerms)
 atom_wants ds h = nothing

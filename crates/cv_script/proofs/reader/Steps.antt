@@ -1,5 +1,5 @@
 -- From the stages of reading a script to what its tokens say.
-use Rattle.std.proofs.Common.{◌≡◌, ℕ, ◌+◌, ◌-◌, ◌<◌, ◌≤◌, Bool, true, false, nat_lt, if◌then◌else◌, List, [], ◌∷◌, ◌++◌, append-nil, drop, map, length, length-drop, length-append, refl, ap, subst, sym, ◌∙◌, arith, Option, None, Result, Ok, Err, Some}
+use Rattle.std.proofs.Common.{◌≡◌, ℕ, ◌+◌, ◌-◌, ◌<◌, ◌≤◌, nat_lt, if◌then◌else◌, List, [], ◌∷◌, ◌++◌, append-nil, drop, map, length, length-drop, length-append, refl, ap, subst, sym, ◌∙◌, arith, Option, None, Result, Ok, Err, Some}
 use Rattle.std.specs.Prelude.{All, IfErr, IfOk, OnOk}
 use Rattle.std.proofs.lemmas.List.Elements.{All-cons, All-nil}
 use Rattle.std.proofs.lemmas.Bool.Decides.{nat_tests}
@@ -20,19 +20,18 @@ use Rattle.cv_syntax.specs.PoolTrees.{tree_at}
 use Rattle.cv_parse_grammar.specs.declared.role.Role.{Role}
 use Rattle.cv_parse_notation.specs.declared.sign.Sign.{Sign}
 use Rattle.cv_parse_notation.specs.Reads.{Read, read_sort}
-use Rattle.cv_parse_notation.specs.Spells.{next_is, starts}
 use Rattle.cv_parse_terms.specs.declared.lookahead.ReadError.{ReadError}
 use Rattle.cv_parse_terms.specs.declared.lookahead.ReadError.TheVariants as reading
 use Rattle.cv_parse_terms.specs.declared.trail.Trail.{Trail}
 use Rattle.cv_parse_terms.specs.Gives.{Fails, IsMade, Makes}
 use Rattle.std.specs.Borrow.{Bor}
 use Rattle.cv_parse_tables.specs.declared.piece.Piece.{Piece}
-use Rattle.cv_parse_tables.specs.Table.{Row, form, rows_of, table_heads, table_rule}
-use Rattle.cv_script.specs.rows.Rows.{script_rows, step_row}
+use Rattle.cv_parse_tables.specs.Table.{Row, rows_of, table_heads, table_rule}
+use Rattle.cv_script.specs.rows.Rows.{script_row, script_rows}
 use Rattle.cv_script.specs.declared.steps.Step.{Step}
 use Rattle.cv_script.specs.declared.reader.error.ScriptError.{ScriptError}
-use Rattle.cv_script.specs.declared.reader.error.ScriptError.TheVariants.{Script, Unbuilt, Build}
-use Rattle.cv_script.specs.reader.Scripts.{ReadsScript, Refuses, begins_step, to_end, items, of_read, read_row, with_room, script_of, stop_at, trees_of}
+use Rattle.cv_script.specs.declared.reader.error.ScriptError.TheVariants.{Script, Build}
+use Rattle.cv_script.specs.reader.Scripts.{ReadsScript, Refuses, to_end, items, of_read, read_script, with_room, script_of, trees_of}
 use Rattle.cv_syntax.specs.limits.Limits.{nodes_of}
 use Rattle.cv_script.specs.reader.Stages.{Crowds, IsScript, at_token}
 use Rattle.cv_script.specs.reader.Trees.{in_room, of_whole, script_nodes, script_tree, whole}
@@ -41,35 +40,28 @@ use Rattle.cv_lists.proofs.Tests.{then_branch, else_branch}
 
 -- reading stopped at a place
 
-by_begin : (b : Bool) (token : ℕ) (r : Result (List Tree) ScriptError) → r ≡ Err (if b then Unbuilt token else Script token) → Refuses (if b then Unbuilt token else Script token) r
-by_begin true token r e = e
-by_begin false token r e = e
-
-pub stops : (row limit live from : ℕ) (signs : List Sign) (old new : Trail) (end : ℕ) → IsMade postorder signs old new (read_row row signs) end → end < length signs → (e : ScriptError) → e ≡ stop_at (from + end) (drop end signs) → Refuses e (script_of row limit live from signs)
+pub stops : (limit live from : ℕ) (signs : List Sign) (old new : Trail) (end : ℕ) → IsMade postorder signs old new (read_script signs) end → end < length signs → script_of limit live from signs ≡ Err (Script (from + end))
 unfolding script_of
-stops row limit live from signs old new end d l e i =
-    subst (λ z. Refuses z (script_of row limit live from signs)) (sym i) (by_begin (next_is begins_step (drop end signs)) (from + end) (script_of row limit live from signs) read)
+stops limit live from signs old new end d l =
+    ap (of_read limit live (from + length signs)) d.read.is ∙ (more (drop end signs) (omega (arith, left, l)) ∙ ap (λ n. Err (Script n)) (omega (arith, left, l)))
   where
-    more : (rest : List Sign) → 0 < length rest → to_end limit live (from + length signs) d.value rest ≡ Err (stop_at (from + length signs - length rest) rest)
+    more : (rest : List Sign) → 0 < length rest → to_end limit live (from + length signs) d.value rest ≡ Err (Script (from + length signs - length rest))
     more [] h = absurd (omega arith)
     more (s ∷ rest) h = refl
 
     left : length (drop end signs) ≡ length signs - end
     left = length-drop end signs
 
-    read : script_of row limit live from signs ≡ Err (stop_at (from + end) (drop end signs))
-    read = ap (of_read limit live (from + length signs)) d.read.is ∙ (more (drop end signs) (omega (arith, left, l)) ∙ ap (λ n. Err (stop_at n (drop end signs))) (omega (arith, left, l)))
-
 -- a fault of the table
-pub faults : (row limit live from : ℕ) (signs : List Sign) (fault : ReadError) → from + length signs < 4294967296 → Fails signs fault (read_row row signs) → (e : ScriptError) → e ≡ at_token from fault → Refuses e (script_of row limit live from signs)
+pub faults : (limit live from : ℕ) (signs : List Sign) (fault : ReadError) → from + length signs < 4294967296 → Fails signs fault (read_script signs) → (e : ScriptError) → e ≡ at_token from fault → Refuses e (script_of limit live from signs)
 unfolding script_of
-faults row limit live from signs (reading.Syntax k) few h e i = subst (λ z. Refuses z (script_of row limit live from signs)) (sym i) (ap (of_read limit live (from + length signs)) h.1 ∙ ap (λ n. Err (Script n)) (let w = h.0 in omega arith))
-faults row limit live from signs (reading.Nesting k) few h e i = subst (λ z. Refuses z (script_of row limit live from signs)) (sym i) (ap (of_read limit live (from + length signs)) h.1 ∙ ap (λ n. Err (Script n)) (let w = h.0 in omega arith))
-faults row limit live from signs reading.OutOfMemory few h e i = subst (λ z. Refuses z (script_of row limit live from signs)) (sym i) tt
+faults limit live from signs (reading.Syntax k) few h e i = subst (λ z. Refuses z (script_of limit live from signs)) (sym i) (ap (of_read limit live (from + length signs)) h.1 ∙ ap (λ n. Err (Script n)) (let w = h.0 in omega arith))
+faults limit live from signs (reading.Nesting k) few h e i = subst (λ z. Refuses z (script_of limit live from signs)) (sym i) (ap (of_read limit live (from + length signs)) h.1 ∙ ap (λ n. Err (Script n)) (let w = h.0 in omega arith))
+faults limit live from signs reading.OutOfMemory few h e i = subst (λ z. Refuses z (script_of limit live from signs)) (sym i) tt
 
 -- the whole was read
-pub ends : (row : ℕ) (signs : List Sign) (old new : Trail) (end : ℕ) → IsMade postorder signs old new (read_row row signs) end → length signs ≤ end → IsScript row signs old new
-ends row signs old new end d l = record {
+pub ends : (signs : List Sign) (old new : Trail) (end : ℕ) → IsMade postorder signs old new (read_script signs) end → length signs ≤ end → IsScript signs old new
+ends signs old new end d l = record {
   value = d.value;
   uses = d.read.uses;
   is = d.read.is ∙ ap (λ r. Ok (record { value = d.value; uses = d.read.uses; rest = r })) (empty (drop end signs) (let n = length-drop end signs in omega (arith, n, l)));
@@ -101,21 +93,20 @@ full limit live t l = then_branch {A = Result (List Tree) ScriptError} (Err (Bui
 pub room : (limit live : ℕ) (t : Tree) → live + nodes_of t ≤ limit → with_room limit live t ≡ Ok (items t)
 room limit live t l = else_branch {A = Result (List Tree) ScriptError} (Err (Build (build.Full (nodes_of t)))) (Ok (items t)) (nat_lt limit (live + nodes_of t)) (grind (arith, nat_tests))
 
-module _ (row limit live from : ℕ) (signs : List Sign) (old new : Trail) (d : IsScript row signs old new) where
-  by_read : script_of row limit live from signs ≡ with_room limit live d.value
+module _ (limit live from : ℕ) (signs : List Sign) (old new : Trail) (d : IsScript signs old new) where
+  by_read : script_of limit live from signs ≡ with_room limit live d.value
   unfolding script_of
   by_read = ap (of_read limit live (from + length signs)) d.is
 
-  crowd_refuses : (e : ScriptError) → Crowds limit live (nodes_of d.value) e → Refuses e (script_of row limit live from signs)
+  crowd_refuses : (e : ScriptError) → Crowds limit live (nodes_of d.value) e → Refuses e (script_of limit live from signs)
   crowd_refuses (Script k) h = by_read ∙ (full limit live d.value h.1 ∙ ap Err (sym h.0))
-  crowd_refuses (Unbuilt k) h = by_read ∙ (full limit live d.value h.1 ∙ ap Err (sym h.0))
   crowd_refuses (Build (build.Full n)) h = by_read ∙ (full limit live d.value h.1 ∙ ap Err (sym h.0))
   crowd_refuses (Build (build.Nodes n)) h = by_read ∙ (full limit live d.value h.1 ∙ ap Err (sym h.0))
   crowd_refuses (Build (build.Depth n)) h = by_read ∙ (full limit live d.value h.1 ∙ ap Err (sym h.0))
   crowd_refuses (Build build.OutOfMemory) h = tt
 
   -- what is planted is what is read
-  pub plants : (trees : List KindTree) (r : Result (Vec Step Global) ScriptError) → IfOk r (λ v. trees_of trees v.items ≡ items d.value) → OnOk r (live + nodes_of d.value ≤ limit) → IfErr r (λ e. Crowds limit live (nodes_of d.value) e) → ReadsScript (script_of row limit live from signs) trees r
+  pub plants : (trees : List KindTree) (r : Result (Vec Step Global) ScriptError) → IfOk r (λ v. trees_of trees v.items ≡ items d.value) → OnOk r (live + nodes_of d.value ≤ limit) → IfErr r (λ e. Crowds limit live (nodes_of d.value) e) → ReadsScript (script_of limit live from signs) trees r
   plants trees (Ok steps) s r c = by_read ∙ (room limit live d.value r ∙ ap Ok (sym s))
   plants trees (Err e) s r c = crowd_refuses e c
 
@@ -154,9 +145,9 @@ small_planted trees t live limit (Ok v) e m = item_small trees v.items t limit e
 small_planted trees t live limit (Err x) e m = e
 
 -- what is read is the tree of the script, where there is room for it
-pub read_in_room : (row limit live from : ℕ) (signs : List Sign) → script_of row limit live from signs ≡ in_room limit live (script_tree row from signs)
+pub read_in_room : (limit live from : ℕ) (signs : List Sign) → script_of limit live from signs ≡ in_room limit live (script_tree from signs)
 unfolding script_of
-read_in_room row limit live from signs = by_read (read_row row signs)
+read_in_room limit live from signs = by_read (read_script signs)
   where
     by_rest : (end : ℕ) (t : Tree) (rest : List Sign) → to_end limit live end t rest ≡ in_room limit live (whole end t rest)
     by_rest end t [] = refl
@@ -172,8 +163,5 @@ only_parts new old parts e h = h ∙ ap (λ l. l ++ parts) e
 
 -- the program's rows
 
-pub begins_there : (rows : List (Bor (List Piece))) → rows_of rows ≡ script_rows → (signs : List Sign) → next_is (starts (table_heads (rows_of rows)) (form (rows_of rows) (length script_rows) step_row)) signs ≡ next_is begins_step signs
-begins_there rows e signs = ap (λ table. next_is (starts (table_heads table) (form table (length script_rows) step_row)) signs) e
-
-pub reads_there : (rows : List (Bor (List Piece))) → rows_of rows ≡ script_rows → (row : ℕ) (signs : List Sign) (old new : Trail) (r : Result ℕ ReadError) → Makes postorder signs old new r (read_sort (table_heads (rows_of rows)) (table_rule (rows_of rows)) 200 (Row row) signs) → Makes postorder signs old new r (read_row row signs)
-reads_there rows e row signs old new r d = subst (λ table. Makes postorder signs old new r (read_sort (table_heads table) (table_rule table) 200 (Row row) signs)) e d
+pub reads_there : (rows : List (Bor (List Piece))) → rows_of rows ≡ script_rows → (signs : List Sign) (old new : Trail) (r : Result ℕ ReadError) → Makes postorder signs old new r (read_sort (table_heads (rows_of rows)) (table_rule (rows_of rows)) 200 (Row script_row) signs) → Makes postorder signs old new r (read_script signs)
+reads_there rows e signs old new r d = subst (λ table. Makes postorder signs old new r (read_sort (table_heads table) (table_rule table) 200 (Row script_row) signs)) e d

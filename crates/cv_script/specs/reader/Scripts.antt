@@ -1,5 +1,5 @@
 -- What the tokens of a script say, or why they are no script. This profile's own.
-use Rattle.std.specs.Prelude.{◌≡◌, ℕ, ◌+◌, ◌-◌, nat_lt, Bool, if◌then◌else◌, List, [], ◌∷◌, length, map, Some, Result, Ok, Err}
+use Rattle.std.specs.Prelude.{◌≡◌, ℕ, ◌+◌, ◌-◌, nat_lt, if◌then◌else◌, List, [], ◌∷◌, length, map, Some, Result, Ok, Err}
 use Rattle.cv_lex.specs.Lexis.{Token}
 use Rattle.cv_pool.specs.KindTree.{KindTree}
 use Rattle.cv_syntax.specs.declared.work.BuildError.TheVariants.{Full, OutOfMemory}
@@ -12,29 +12,20 @@ use Rattle.cv_parse_tables.specs.terminals.ScriptSigns.{between, script_signs}
 use Rattle.cv_parse_notation.specs.declared.sign.Sign.{Sign}
 use Rattle.cv_parse_notation.specs.Reads.{Fault, Read, Reader, read_sort}
 use Rattle.cv_parse_notation.specs.Reads as fault
-use Rattle.cv_parse_notation.specs.Spells.{Kind, next_is, starts}
 use Rattle.cv_parse_grammar.specs.declared.role.Role.{Role}
-use Rattle.cv_parse_tables.specs.Table.{Row, row_phrase, table_heads, table_rule}
+use Rattle.cv_parse_tables.specs.Table.{Row, table_heads, table_rule}
 use Rattle.cv_script.specs.declared.steps.Step.{Step}
-use Rattle.cv_script.specs.rows.Rows.{script_rows, step_row}
+use Rattle.cv_script.specs.rows.Rows.{script_row, script_rows}
 use Rattle.cv_script.specs.declared.reader.error.ScriptError.{ScriptError}
-use Rattle.cv_script.specs.declared.reader.error.ScriptError.TheVariants.{Script, Unbuilt, Build}
+use Rattle.cv_script.specs.declared.reader.error.ScriptError.TheVariants.{Script, Build}
 
 -- how deep brackets and syntax nodes may stand
 abbrev pub most_levels : ℕ
 most_levels = 200
 
--- what reads a phrase of a row of the table
-abbrev pub read_row : (row : ℕ) → Reader Role Tree
-read_row row signs = read_sort (table_heads script_rows) (table_rule script_rows) most_levels (Row row) signs
-
--- a step begins with a token of the kind
-abbrev pub begins_step : Kind → Bool
-begins_step k = starts (table_heads script_rows) (row_phrase script_rows step_row) k
-
--- Reading stopped before a token with which no step begins that is read: another step begins there, or none.
-abbrev pub stop_at : (token : ℕ) → List Sign → ScriptError
-stop_at token rest = if next_is begins_step rest then Unbuilt token else Script token
+-- what reads a script, to where it ends
+abbrev pub read_script : Reader Role Tree
+read_script signs = read_sort (table_heads script_rows) (table_rule script_rows) most_levels (Row script_row) signs
 
 -- the token at which so many are left before the end
 abbrev pub of_fault : (end : ℕ) → Fault → ScriptError
@@ -53,19 +44,19 @@ with_room limit live t = if nat_lt limit (live + nodes_of t) then Err (Build (Fu
 -- a script that ends with its tokens
 abbrev pub to_end : (limit live end : ℕ) → Tree → List Sign → Result (List Tree) ScriptError
 to_end limit live end t [] = with_room limit live t
-to_end limit live end t (s ∷ rest) = Err (stop_at (end - length (s ∷ rest)) (s ∷ rest))
+to_end limit live end t (s ∷ rest) = Err (Script (end - length (s ∷ rest)))
 
 abbrev pub of_read : (limit live end : ℕ) → Read Role Tree → Result (List Tree) ScriptError
 of_read limit live end (Ok x) = to_end limit live end x.value x.rest
 of_read limit live end (Err f) = Err (of_fault end f)
 
 -- The table first, then the room. No name is refused.
-unfoldable pub script_of : (row limit live from : ℕ) → List Sign → Result (List Tree) ScriptError
-script_of row limit live from signs = of_read limit live (from + length signs) (read_row row signs)
+unfoldable pub script_of : (limit live from : ℕ) → List Sign → Result (List Tree) ScriptError
+script_of limit live from signs = of_read limit live (from + length signs) (read_script signs)
 
 -- the same of the tokens from one on, before another: names are looked up among those that are there
-abbrev pub script_read : (row limit live : ℕ) → List (List ℕ) → List Token → (from to : ℕ) → Result (List Tree) ScriptError
-script_read row limit live names tokens from to = script_of row limit live from (script_signs names (between from to tokens)).signs
+abbrev pub script_read : (limit live : ℕ) → List (List ℕ) → List Token → (from to : ℕ) → Result (List Tree) ScriptError
+script_read limit live names tokens from to = script_of limit live from (script_signs names (between from to tokens)).signs
 
 -- the trees of steps
 abbrev pub trees_of : List KindTree → List Step → List Tree

@@ -13,7 +13,7 @@ use Rattle.cv_parse_terms.specs.declared.lookahead.ReadError.TheVariants as read
 use Rattle.cv_parse_terms.specs.declared.trail.Trail.{Trail}
 use Rattle.cv_script.specs.declared.reader.error.ScriptError.{ScriptError}
 use Rattle.cv_script.specs.declared.reader.error.ScriptError.TheVariants.{Script, Build}
-use Rattle.cv_script.specs.reader.Scripts.{Refuses, read_row, script_of}
+use Rattle.cv_script.specs.reader.Scripts.{Refuses, read_script, script_of}
 
 -- a fault of signs that begin at a token
 abbrev pub at_token : (from : ℕ) → ReadError → ScriptError
@@ -26,16 +26,16 @@ of_pool (pool.Full need) = Build (Full need)
 of_pool pool.OutOfMemory = Build OutOfMemory
 
 -- A script was read to the end, and its parts were made.
-pub record IsScript (row : ℕ) (signs : List Sign) (old new : Trail) : Type 0 where
+pub record IsScript (signs : List Sign) (old new : Trail) : Type 0 where
   pub value : Tree
   pub uses : Uses
-  pub is : read_row row signs ≡ found value uses []
+  pub is : read_script signs ≡ found value uses []
   pub parts : new.makes.items ≡ old.makes.items ++ postorder value
 
 -- A script was read, or refused whatever room there is.
-abbrev pub GivesScript : (row from : ℕ) → List Sign → Trail → Trail → Result (Unit {0}) ScriptError → Type 0
-GivesScript row from signs old new (Ok u) = IsScript row signs old new
-GivesScript row from signs old new (Err e) = (limit live : ℕ) → Refuses e (script_of row limit live from signs)
+abbrev pub GivesScript : (from : ℕ) → List Sign → Trail → Trail → Result (Unit {0}) ScriptError → Type 0
+GivesScript from signs old new (Ok u) = IsScript signs old new
+GivesScript from signs old new (Err e) = (limit live : ℕ) → Refuses e (script_of limit live from signs)
 
 -- memory ran out, or the pool has no room for what is asked
 abbrev pub Crowds : (limit live need : ℕ) → ScriptError → Type 0

@@ -7,25 +7,26 @@ use Rattle.cv_parse_notation.specs.declared.sign.Sign.{Sign}
 use Rattle.cv_parse_notation.specs.Reads.{Read}
 use Rattle.cv_parse_grammar.specs.declared.role.Role.{Role}
 use Rattle.cv_script.specs.declared.reader.error.ScriptError.{ScriptError}
-use Rattle.cv_script.specs.reader.Scripts.{of_fault, read_row, stop_at, with_room}
+use Rattle.cv_script.specs.declared.reader.error.ScriptError.TheVariants.{Script}
+use Rattle.cv_script.specs.reader.Scripts.{of_fault, read_script, with_room}
 use Rattle.cv_syntax.specs.limits.Limits.{nodes_of}
 
 -- a script that ends with its tokens
 abbrev pub whole : (end : ℕ) → Tree → List Sign → Result Tree ScriptError
 whole end t [] = Ok t
-whole end t (s ∷ rest) = Err (stop_at (end - length (s ∷ rest)) (s ∷ rest))
+whole end t (s ∷ rest) = Err (Script (end - length (s ∷ rest)))
 
 abbrev pub of_whole : (end : ℕ) → Read Role Tree → Result Tree ScriptError
 of_whole end (Ok x) = whole end x.value x.rest
 of_whole end (Err f) = Err (of_fault end f)
 
--- what signs that begin at a token read as, by a row of the table
-abbrev pub script_tree : (row from : ℕ) → List Sign → Result Tree ScriptError
-script_tree row from signs = of_whole (from + length signs) (read_row row signs)
+-- what signs that begin at a token read as
+abbrev pub script_tree : (from : ℕ) → List Sign → Result Tree ScriptError
+script_tree from signs = of_whole (from + length signs) (read_script signs)
 
 -- the same of the tokens from one on, before another: names are looked up among those that are there
-abbrev pub tree_read : (row : ℕ) → List (List ℕ) → List Token → (from to : ℕ) → Result Tree ScriptError
-tree_read row names tokens from to = script_tree row from (script_signs names (between from to tokens)).signs
+abbrev pub tree_read : List (List ℕ) → List Token → (from to : ℕ) → Result Tree ScriptError
+tree_read names tokens from to = script_tree from (script_signs names (between from to tokens)).signs
 
 -- its steps, where a pool has room for them
 abbrev pub in_room : (limit live : ℕ) → Result Tree ScriptError → Result (List Tree) ScriptError

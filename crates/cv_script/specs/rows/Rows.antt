@@ -10,20 +10,13 @@ use Rattle.cv_parse_tables.specs.declared.piece.Outer.TheVariants as outer
 use Rattle.cv_parse_tables.specs.declared.piece.Piece.TheVariants.{Blank, Chain, Deeper, Either, Level, Many, May, Number, OneOf, Over, Phrase, ScriptWord as Says, Sign, Word}
 use Rattle.cv_parse_tables.specs.Table.{Table}
 
--- the rows of a step, of a script, and of a script whose steps have a rule
+-- the rows of a step and of a script
 
 abbrev pub step_row : ℕ
-step_row = 153
+step_row = 155
 
 abbrev pub script_row : ℕ
-script_row = 156
-
-abbrev pub built_script_row : ℕ
-built_script_row = 159
-
--- how many of the steps, from the first one on, have a rule
-abbrev pub steps_with_a_rule : ℕ
-steps_with_a_rule = 19
+script_row = 158
 
 abbrev pub script_rows : Table
 script_rows =
@@ -123,68 +116,67 @@ script_rows =
     (Sign mark.EventWord ∷ Blank ∷ OneOf 90 2 ∷ []) ∷  -- 93 event route
     (Over head.HoldsRoute 92 ∷ []) ∷  -- 94 holds route
     (Blank ∷ OneOf 93 2 ∷ []) ∷  -- 95 route item
-    (Many false 95 ∷ []) ∷  -- 96 routes
+    (Says word.Alt ∷ Blank ∷ Number ∷ []) ∷  -- 96 alternative
     (Says word.Never ∷ Blank ∷ Level 18 ∷ []) ∷  -- 97 never
-    (Says word.With ∷ Blank ∷ Level 14 ∷ Chain 96 ∷ []) ∷  -- 98 with
-    (Over head.NeverEntry 97 ∷ []) ∷  -- 99 a never
-    (Over head.WithEntry 98 ∷ []) ∷  -- 100 a with
-    (Says word.At ∷ Blank ∷ Number ∷ Blank ∷ OneOf 99 2 ∷ []) ∷  -- 101 at
-    (Blank ∷ Over head.AtEntry 101 ∷ []) ∷  -- 102 entry item
-    (Says word.Distinct ∷ Blank ∷ Chain 4 ∷ []) ∷  -- 103 distinct
-    (Blank ∷ Over head.DistinctPart 103 ∷ []) ∷  -- 104 distinct item
-    (Says word.Pair ∷ Blank ∷ Number ∷ Blank ∷ Number ∷ Blank ∷ Number ∷ Blank ∷ Level 18 ∷ []) ∷  -- 105 pair
-    (Blank ∷ Over head.Pair 105 ∷ []) ∷  -- 106 pair item
-    (Says word.Pair ∷ Blank ∷ Number ∷ Blank ∷ Number ∷ Blank ∷ Level 18 ∷ []) ∷  -- 107 secret pair
-    (Blank ∷ Over head.SecretPair 107 ∷ []) ∷  -- 108 secret pair item
-    (Many false 102 ∷ May false 104 ∷ Many false 106 ∷ []) ∷  -- 109 events parts
-    (Many false 108 ∷ []) ∷  -- 110 secret parts
-    (Says word.Events ∷ Chain 109 ∷ []) ∷  -- 111 events
-    (Sign mark.Secret ∷ Chain 110 ∷ []) ∷  -- 112 secret
-    (Over head.EventsCertificate 111 ∷ []) ∷  -- 113 a events
-    (Over head.SecretCertificate 112 ∷ []) ∷  -- 114 a secret
-    (Says word.Rename ∷ Blank ∷ Word role.Nothing ∷ Blank ∷ Says word.To ∷ Blank ∷ Word role.Nothing ∷ []) ∷  -- 115 rename
-    (Says word.Rewrite ∷ Blank ∷ Number ∷ Blank ∷ Says word.To ∷ Blank ∷ Phrase outer.Term ∷ Blank ∷ Says word.By ∷ Blank ∷ Level 18 ∷ []) ∷  -- 116 rewrite
-    (Says word.Prune ∷ Blank ∷ Number ∷ Blank ∷ OneOf 80 3 ∷ Blank ∷ Says word.By ∷ Blank ∷ Level 18 ∷ []) ∷  -- 117 prune
-    (Says word.Pick ∷ Blank ∷ Number ∷ Blank ∷ Level 14 ∷ Blank ∷ Says word.By ∷ Blank ∷ Level 18 ∷ Blank ∷ Level 18 ∷ []) ∷  -- 118 pick
-    (Says word.Merge ∷ Blank ∷ Number ∷ []) ∷  -- 119 merge
-    (Says word.Split ∷ Blank ∷ Number ∷ Blank ∷ Phrase outer.Term ∷ []) ∷  -- 120 split
-    (Sign mark.Let ∷ Blank ∷ Number ∷ Blank ∷ Word role.Nothing ∷ Sign mark.Colon ∷ Blank ∷ Either 1 2 ∷ Blank ∷ Sign mark.Equal ∷ Blank ∷ Phrase outer.Term ∷ []) ∷  -- 121 let
-    (Says word.Unlet ∷ Blank ∷ Word role.Nothing ∷ []) ∷  -- 122 unlet
-    (Sign mark.New ∷ Blank ∷ Number ∷ Blank ∷ Word role.Nothing ∷ Sign mark.Colon ∷ Blank ∷ Either 1 2 ∷ []) ∷  -- 123 new
-    (Says word.Unnew ∷ Blank ∷ Word role.Nothing ∷ []) ∷  -- 124 unnew
-    (Says word.Move ∷ Blank ∷ Number ∷ []) ∷  -- 125 move
-    (Says word.ArrayRename ∷ Blank ∷ Word role.Nothing ∷ Blank ∷ Says word.To ∷ Blank ∷ Level 6 ∷ []) ∷  -- 126 array rename
-    (Says word.Codef ∷ Blank ∷ Number ∷ Blank ∷ OneOf 83 2 ∷ Blank ∷ Phrase outer.Cell ∷ Blank ∷ Says word.From ∷ Blank ∷ Phrase outer.Cell ∷ Chain 87 ∷ []) ∷  -- 127 codef
-    (Says word.Birthday ∷ Blank ∷ Word role.Nothing ∷ Blank ∷ Says word.At ∷ Blank ∷ Level 10 ∷ []) ∷  -- 128 birthday
-    (Says word.Guess ∷ Blank ∷ Word role.Nothing ∷ Blank ∷ Says word.At ∷ Blank ∷ Level 10 ∷ []) ∷  -- 129 guess
-    (Says word.Fresh ∷ Blank ∷ Number ∷ []) ∷  -- 130 fresh
-    (Says word.Crypto ∷ Blank ∷ Word role.Nothing ∷ Blank ∷ Word role.Nothing ∷ []) ∷  -- 131 crypto
-    (Says word.Success ∷ Blank ∷ Number ∷ Blank ∷ OneOf 113 2 ∷ []) ∷  -- 132 success
-    (Says word.Simplify ∷ []) ∷  -- 133 simplify
-    (Over head.SplitStep 120 ∷ []) ∷  -- 134 a split
-    (Over head.LetStep 121 ∷ []) ∷  -- 135 a let
-    (Over head.NewStep 123 ∷ []) ∷  -- 136 a new
-    (Over head.UnnewStep 124 ∷ []) ∷  -- 137 a unnew
-    (Over head.RewriteStep 116 ∷ []) ∷  -- 138 a rewrite
-    (Over head.PruneStep 117 ∷ []) ∷  -- 139 a prune
-    (Over head.SuccessStep 132 ∷ []) ∷  -- 140 a success
-    (Over head.CryptoStep 131 ∷ []) ∷  -- 141 a crypto
-    (Over head.UnletStep 122 ∷ []) ∷  -- 142 a unlet
-    (Over head.RenameStep 115 ∷ []) ∷  -- 143 a rename
-    (Over head.MergeStep 119 ∷ []) ∷  -- 144 a merge
-    (Over head.MoveStep 125 ∷ []) ∷  -- 145 a move
-    (Over head.CodefStep 127 ∷ []) ∷  -- 146 a codef
-    (Over head.ArrayRenameStep 126 ∷ []) ∷  -- 147 a array rename
-    (Over head.SimplifyStep 133 ∷ []) ∷  -- 148 a simplify
-    (Over head.PickStep 118 ∷ []) ∷  -- 149 a pick
-    (Over head.FreshStep 130 ∷ []) ∷  -- 150 a fresh
-    (Over head.BirthdayStep 128 ∷ []) ∷  -- 151 a birthday
-    (Over head.GuessStep 129 ∷ []) ∷  -- 152 a guess
-    (OneOf 134 19 ∷ []) ∷  -- 153 step
-    (OneOf 134 19 ∷ Sign mark.Semicolon ∷ []) ∷  -- 154 step item
-    (Many false 154 ∷ []) ∷  -- 155 steps
-    (Chain 155 ∷ []) ∷  -- 156 script
-    (OneOf 134 steps_with_a_rule ∷ Sign mark.Semicolon ∷ []) ∷  -- 157 built item
-    (Many false 157 ∷ []) ∷  -- 158 built steps
-    (Chain 158 ∷ []) ∷  -- 159 built script
+    (Blank ∷ Over head.AlternativePart 96 ∷ []) ∷  -- 98 alternative item
+    (May false 98 ∷ Many false 95 ∷ []) ∷  -- 99 choice
+    (Says word.With ∷ Blank ∷ Level 14 ∷ Chain 99 ∷ []) ∷  -- 100 with
+    (Over head.NeverEntry 97 ∷ []) ∷  -- 101 a never
+    (Over head.WithEntry 100 ∷ []) ∷  -- 102 a with
+    (Says word.At ∷ Blank ∷ Number ∷ Blank ∷ OneOf 101 2 ∷ []) ∷  -- 103 at
+    (Blank ∷ Over head.AtEntry 103 ∷ []) ∷  -- 104 entry item
+    (Says word.Distinct ∷ Blank ∷ Chain 4 ∷ []) ∷  -- 105 distinct
+    (Blank ∷ Over head.DistinctPart 105 ∷ []) ∷  -- 106 distinct item
+    (Says word.Pair ∷ Blank ∷ Number ∷ Blank ∷ Number ∷ Blank ∷ Number ∷ Blank ∷ Level 18 ∷ []) ∷  -- 107 pair
+    (Blank ∷ Over head.Pair 107 ∷ []) ∷  -- 108 pair item
+    (Says word.Pair ∷ Blank ∷ Number ∷ Blank ∷ Number ∷ Blank ∷ Level 18 ∷ []) ∷  -- 109 secret pair
+    (Blank ∷ Over head.SecretPair 109 ∷ []) ∷  -- 110 secret pair item
+    (Many false 104 ∷ May false 106 ∷ Many false 108 ∷ []) ∷  -- 111 events parts
+    (Many false 110 ∷ []) ∷  -- 112 secret parts
+    (Says word.Events ∷ Chain 111 ∷ []) ∷  -- 113 events
+    (Sign mark.Secret ∷ Chain 112 ∷ []) ∷  -- 114 secret
+    (Over head.EventsCertificate 113 ∷ []) ∷  -- 115 a events
+    (Over head.SecretCertificate 114 ∷ []) ∷  -- 116 a secret
+    (Says word.Rename ∷ Blank ∷ Word role.Nothing ∷ Blank ∷ Says word.To ∷ Blank ∷ Word role.Nothing ∷ []) ∷  -- 117 rename
+    (Says word.Rewrite ∷ Blank ∷ Number ∷ Blank ∷ Says word.To ∷ Blank ∷ Phrase outer.Term ∷ Blank ∷ Says word.By ∷ Blank ∷ Level 18 ∷ []) ∷  -- 118 rewrite
+    (Says word.Prune ∷ Blank ∷ Number ∷ Blank ∷ OneOf 80 3 ∷ Blank ∷ Says word.By ∷ Blank ∷ Level 18 ∷ []) ∷  -- 119 prune
+    (Says word.Pick ∷ Blank ∷ Number ∷ Blank ∷ Level 14 ∷ Blank ∷ Says word.By ∷ Blank ∷ Level 18 ∷ Blank ∷ Level 18 ∷ []) ∷  -- 120 pick
+    (Says word.Merge ∷ Blank ∷ Number ∷ []) ∷  -- 121 merge
+    (Says word.Split ∷ Blank ∷ Number ∷ Blank ∷ Phrase outer.Term ∷ []) ∷  -- 122 split
+    (Sign mark.Let ∷ Blank ∷ Number ∷ Blank ∷ Word role.Nothing ∷ Sign mark.Colon ∷ Blank ∷ Either 1 2 ∷ Blank ∷ Sign mark.Equal ∷ Blank ∷ Phrase outer.Term ∷ []) ∷  -- 123 let
+    (Says word.Unlet ∷ Blank ∷ Word role.Nothing ∷ []) ∷  -- 124 unlet
+    (Sign mark.New ∷ Blank ∷ Number ∷ Blank ∷ Word role.Nothing ∷ Sign mark.Colon ∷ Blank ∷ Either 1 2 ∷ []) ∷  -- 125 new
+    (Says word.Unnew ∷ Blank ∷ Word role.Nothing ∷ []) ∷  -- 126 unnew
+    (Says word.Move ∷ Blank ∷ Number ∷ []) ∷  -- 127 move
+    (Says word.ArrayRename ∷ Blank ∷ Word role.Nothing ∷ Blank ∷ Says word.To ∷ Blank ∷ Level 6 ∷ []) ∷  -- 128 array rename
+    (Says word.Codef ∷ Blank ∷ Number ∷ Blank ∷ OneOf 83 2 ∷ Blank ∷ Phrase outer.Cell ∷ Blank ∷ Says word.From ∷ Blank ∷ Phrase outer.Cell ∷ Chain 87 ∷ []) ∷  -- 129 codef
+    (Says word.Birthday ∷ Blank ∷ Word role.Nothing ∷ Blank ∷ Says word.At ∷ Blank ∷ Level 10 ∷ []) ∷  -- 130 birthday
+    (Says word.Guess ∷ Blank ∷ Word role.Nothing ∷ Blank ∷ Says word.At ∷ Blank ∷ Level 10 ∷ []) ∷  -- 131 guess
+    (Says word.Fresh ∷ Blank ∷ Number ∷ []) ∷  -- 132 fresh
+    (Says word.Crypto ∷ Blank ∷ Word role.Nothing ∷ Blank ∷ Word role.Nothing ∷ []) ∷  -- 133 crypto
+    (Says word.Success ∷ Blank ∷ Number ∷ Blank ∷ OneOf 115 2 ∷ []) ∷  -- 134 success
+    (Says word.Simplify ∷ []) ∷  -- 135 simplify
+    (Over head.SplitStep 122 ∷ []) ∷  -- 136 a split
+    (Over head.LetStep 123 ∷ []) ∷  -- 137 a let
+    (Over head.NewStep 125 ∷ []) ∷  -- 138 a new
+    (Over head.UnnewStep 126 ∷ []) ∷  -- 139 a unnew
+    (Over head.RewriteStep 118 ∷ []) ∷  -- 140 a rewrite
+    (Over head.PruneStep 119 ∷ []) ∷  -- 141 a prune
+    (Over head.SuccessStep 134 ∷ []) ∷  -- 142 a success
+    (Over head.CryptoStep 133 ∷ []) ∷  -- 143 a crypto
+    (Over head.UnletStep 124 ∷ []) ∷  -- 144 a unlet
+    (Over head.RenameStep 117 ∷ []) ∷  -- 145 a rename
+    (Over head.MergeStep 121 ∷ []) ∷  -- 146 a merge
+    (Over head.MoveStep 127 ∷ []) ∷  -- 147 a move
+    (Over head.CodefStep 129 ∷ []) ∷  -- 148 a codef
+    (Over head.ArrayRenameStep 128 ∷ []) ∷  -- 149 a array rename
+    (Over head.SimplifyStep 135 ∷ []) ∷  -- 150 a simplify
+    (Over head.PickStep 120 ∷ []) ∷  -- 151 a pick
+    (Over head.FreshStep 132 ∷ []) ∷  -- 152 a fresh
+    (Over head.BirthdayStep 130 ∷ []) ∷  -- 153 a birthday
+    (Over head.GuessStep 131 ∷ []) ∷  -- 154 a guess
+    (OneOf 136 19 ∷ []) ∷  -- 155 step
+    (OneOf 136 19 ∷ Sign mark.Semicolon ∷ []) ∷  -- 156 step item
+    (Many false 156 ∷ []) ∷  -- 157 steps
+    (Chain 157 ∷ []) ∷  -- 158 script
     []

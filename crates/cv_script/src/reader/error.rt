@@ -6,8 +6,6 @@ use std::alloc::AllocError;
 pub enum ScriptError {
     /// No script begins with the tokens through this one, or brackets and syntax nodes stand too deep here.
     Script(u32),
-    /// A step begins here whose rule isn't built.
-    Unbuilt(u32),
     /// The trees are too large, or memory ran out.
     Build(BuildError),
 }

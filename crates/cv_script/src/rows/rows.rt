@@ -144,97 +144,93 @@ const EVENT_ROUTE: u16 = 93;
 
 const ROUTE_ITEM: u16 = 95;
 
-const ROUTES: u16 = 96;
+const ALTERNATIVE: u16 = 96;
 
 const NEVER: u16 = 97;
 
-const WITH: u16 = 98;
+const ALTERNATIVE_ITEM: u16 = 98;
 
-const A_NEVER: u16 = 99;
+const CHOICE: u16 = 99;
 
-const AT: u16 = 101;
+const WITH: u16 = 100;
 
-const ENTRY_ITEM: u16 = 102;
+const A_NEVER: u16 = 101;
 
-const DISTINCT: u16 = 103;
+const AT: u16 = 103;
 
-const DISTINCT_ITEM: u16 = 104;
+const ENTRY_ITEM: u16 = 104;
 
-const PAIR: u16 = 105;
+const DISTINCT: u16 = 105;
 
-const PAIR_ITEM: u16 = 106;
+const DISTINCT_ITEM: u16 = 106;
 
-const SECRET_PAIR: u16 = 107;
+const PAIR: u16 = 107;
 
-const SECRET_PAIR_ITEM: u16 = 108;
+const PAIR_ITEM: u16 = 108;
 
-const EVENTS_PARTS: u16 = 109;
+const SECRET_PAIR: u16 = 109;
 
-const SECRET_PARTS: u16 = 110;
+const SECRET_PAIR_ITEM: u16 = 110;
 
-const EVENTS: u16 = 111;
+const EVENTS_PARTS: u16 = 111;
 
-const SECRET: u16 = 112;
+const SECRET_PARTS: u16 = 112;
 
-const A_EVENTS: u16 = 113;
+const EVENTS: u16 = 113;
 
-const RENAME: u16 = 115;
+const SECRET: u16 = 114;
 
-const REWRITE: u16 = 116;
+const A_EVENTS: u16 = 115;
 
-const PRUNE: u16 = 117;
+const RENAME: u16 = 117;
 
-const PICK: u16 = 118;
+const REWRITE: u16 = 118;
 
-const MERGE: u16 = 119;
+const PRUNE: u16 = 119;
 
-const SPLIT: u16 = 120;
+const PICK: u16 = 120;
 
-const LET: u16 = 121;
+const MERGE: u16 = 121;
 
-const UNLET: u16 = 122;
+const SPLIT: u16 = 122;
 
-const NEW: u16 = 123;
+const LET: u16 = 123;
 
-const UNNEW: u16 = 124;
+const UNLET: u16 = 124;
 
-const MOVE: u16 = 125;
+const NEW: u16 = 125;
 
-const ARRAY_RENAME: u16 = 126;
+const UNNEW: u16 = 126;
 
-const CODEF: u16 = 127;
+const MOVE: u16 = 127;
 
-const BIRTHDAY: u16 = 128;
+const ARRAY_RENAME: u16 = 128;
 
-const GUESS: u16 = 129;
+const CODEF: u16 = 129;
 
-const FRESH: u16 = 130;
+const BIRTHDAY: u16 = 130;
 
-const CRYPTO: u16 = 131;
+const GUESS: u16 = 131;
 
-const SUCCESS: u16 = 132;
+const FRESH: u16 = 132;
 
-const SIMPLIFY: u16 = 133;
+const CRYPTO: u16 = 133;
 
-const FIRST_STEP: u16 = 134;
+const SUCCESS: u16 = 134;
+
+const SIMPLIFY: u16 = 135;
+
+const FIRST_STEP: u16 = 136;
 /// The row of a step.
-pub const STEP: u16 = 153;
+pub const STEP: u16 = 155;
 
-const STEP_ITEM: u16 = 154;
+const STEP_ITEM: u16 = 156;
 
-const STEPS: u16 = 155;
+const STEPS: u16 = 157;
 /// The row of a script: steps with a semicolon behind each.
-pub const SCRIPT: u16 = 156;
-
-const BUILT_ITEM: u16 = 157;
-
-const BUILT_STEPS: u16 = 158;
-/// The row of a script whose steps have a rule.
-pub const BUILT_SCRIPT: u16 = 159;
-/// How many of the steps, from the first one on, have a rule.
-const BUILT: u16 = 19;
+pub const SCRIPT: u16 = 158;
 /// How many rows the table has.
-const ROWS: usize = 160;
+const ROWS: usize = 159;
 
 /// Lists of names, numbers, terms and lines.
 static LIST_ROWS: [&[Piece]; 21] = [
@@ -375,7 +371,7 @@ static LINE_ROWS: [&[Piece]; 7] = [
 ];
 
 /// Parts of steps, and certificates.
-static CERTIFICATE_ROWS: [&[Piece]; 39] = [
+static CERTIFICATE_ROWS: [&[Piece]; 41] = [
     &[Sign(Mark::Then)],
     &[Sign(Mark::Else)],
     &[Says(ScriptWord::Add)],
@@ -404,13 +400,15 @@ static CERTIFICATE_ROWS: [&[Piece]; 39] = [
     &[Sign(Mark::EventWord), Blank, OneOf(A_ABOVE, 2)],
     &[Over(Head::HoldsRoute, HOLDS)],
     &[Blank, OneOf(EVENT_ROUTE, 2)],
-    &[Many(false, ROUTE_ITEM)],
+    &[Says(ScriptWord::Alt), Blank, Number],
     &[Says(ScriptWord::Never), Blank, Level(BRACES)],
+    &[Blank, Over(Head::AlternativePart, ALTERNATIVE)],
+    &[May(false, ALTERNATIVE_ITEM), Many(false, ROUTE_ITEM)],
     &[
         Says(ScriptWord::With),
         Blank,
         Level(TERM_LIST),
-        Chain(ROUTES),
+        Chain(CHOICE),
     ],
     &[Over(Head::NeverEntry, NEVER)],
     &[Over(Head::WithEntry, WITH)],
@@ -459,7 +457,7 @@ static CERTIFICATE_ROWS: [&[Piece]; 39] = [
 ];
 
 /// Steps and scripts.
-static STEP_ROWS: [&[Piece]; 45] = [
+static STEP_ROWS: [&[Piece]; 42] = [
     &[
         Says(ScriptWord::Rename),
         Blank,
@@ -621,9 +619,6 @@ static STEP_ROWS: [&[Piece]; 45] = [
     &[OneOf(FIRST_STEP, 19), Sign(Mark::Semicolon)],
     &[Many(false, STEP_ITEM)],
     &[Chain(STEPS)],
-    &[OneOf(FIRST_STEP, BUILT), Sign(Mark::Semicolon)],
-    &[Many(false, BUILT_ITEM)],
-    &[Chain(BUILT_STEPS)],
 ];
 
 /// The rows of the table of scripts.

@@ -1,5 +1,5 @@
 -- Scripts are decided: what is computed of tokens is what they spell.
-use Rattle.std.proofs.Common.{◌≡◌, ℕ, ◌+◌, ◌-◌, ◌<◌, ◌≤◌, ◌⊎◌, inl, inr, Bool, true, false, nat_lt, ◌&&◌, if◌then◌else◌, List, [], ◌∷◌, ◌++◌, length, length-append, Result, Ok, Err, refl, ap, sym, ◌∙◌, subst, arith, eqb-true}
+use Rattle.std.proofs.Common.{◌≡◌, ℕ, ◌+◌, ◌-◌, ◌<◌, ◌≤◌, ◌⊎◌, inl, inr, Bool, true, false, nat_lt, ◌&&◌, List, [], ◌∷◌, ◌++◌, length, length-append, Result, Ok, Err, refl, ap, sym, ◌∙◌, subst, arith, eqb-true}
 use Rattle.std.proofs.lemmas.Bool.Decides.{nat_tests}
 use Rattle.cv_syntax.specs.declared.work.BuildError.TheVariants.{Full}
 use Rattle.cv_syntax_trees.specs.Tree.{Tree}
@@ -7,7 +7,7 @@ use Rattle.cv_parse_notation.specs.declared.sign.Sign.{Sign}
 use Rattle.cv_parse_notation.specs.Form.{Form, sign, script_word, word, number, nought, find_word, unnamed, other, note, both, may, many, either, made, level, deeper}
 use Rattle.cv_parse_notation.specs.Local.{LocalAt, SameFirst}
 use Rattle.cv_parse_notation.specs.Reads.{Found, Read, Syntax, Nesting, found, read_sort}
-use Rattle.cv_parse_notation.specs.Spells.{IsSort, Use, next_is}
+use Rattle.cv_parse_notation.specs.Spells.{IsSort, Use}
 use Rattle.cv_parse_notation.specs.Whole.{Dead, SpellsWith, reads_with}
 use Rattle.cv_parse_notation.proofs.Complete.{complete}
 use Rattle.cv_parse_notation.proofs.Locality.{Local, local, sort_local, takes_more}
@@ -18,11 +18,11 @@ use Rattle.cv_parse_grammar.specs.Files.{levels}
 use Rattle.cv_parse_grammar.specs.Marks.{marked_rule}
 use Rattle.cv_parse_grammar.specs.Phrases.{Sort}
 use Rattle.cv_parse_tables.specs.Table.{Nowhere, OfFiles, Row, TableSort, carried, table_heads, table_rule}
-use Rattle.cv_script.specs.rows.Rows.{script_row, script_rows}
-use Rattle.cv_script.specs.reader.Scripts.{begins_step, to_end, items, of_read, read_row, with_room, script_of, stop_at}
+use Rattle.cv_script.specs.rows.Rows.{script_rows}
+use Rattle.cv_script.specs.reader.Scripts.{to_end, items, of_read, read_script, with_room, script_of}
 use Rattle.cv_syntax.specs.limits.Limits.{nodes_of}
 use Rattle.cv_script.specs.declared.reader.error.ScriptError.{ScriptError}
-use Rattle.cv_script.specs.declared.reader.error.ScriptError.TheVariants.{Build, Script, Unbuilt}
+use Rattle.cv_script.specs.declared.reader.error.ScriptError.TheVariants.{Build, Script}
 use Rattle.cv_script_laws.specs.forms.Scripts.{IsScript, IsSomeScript, Takes, script_form}
 use Rattle.cv_script_laws.proofs.forms.Agreement.{reads_same, sorts_pass, sorts_same, sort_spelled, sort_spelled_back, spells_same}
 use Rattle.cv_script_laws.proofs.forms.Fitting.{all_fit, deep_rule, deep_tails, is_deep, line_row, script_fits, script_steady, when_deep}
@@ -69,7 +69,7 @@ agree s e = sym (ap (λ b. when_deep b s) e)
 
 -- the table's forms, and those of the phrases that are asked for
 
-to_deep : (signs : List Sign) (t : Tree) (us : List (Use Role)) (rest : List Sign) → SpellsWith (table_heads script_rows) (table_rule script_rows) script_form levels signs t us rest → SpellsWith (table_heads script_rows) deep_rule script_form levels signs t us rest
+pub to_deep : (signs : List Sign) (t : Tree) (us : List (Use Role)) (rest : List Sign) → SpellsWith (table_heads script_rows) (table_rule script_rows) script_form levels signs t us rest → SpellsWith (table_heads script_rows) deep_rule script_form levels signs t us rest
 to_deep signs t us rest d = spells_same (table_heads script_rows) is_deep true (IsSort (table_heads script_rows) (table_rule script_rows) levels) (IsSort (table_heads script_rows) deep_rule levels) (sort_spelled (table_heads script_rows) is_deep (table_rule script_rows) deep_rule agree closed levels) script_form script_deep signs t us rest d
 
 from_deep : (signs : List Sign) (t : Tree) (us : List (Use Role)) (rest : List Sign) → SpellsWith (table_heads script_rows) deep_rule script_form levels signs t us rest → SpellsWith (table_heads script_rows) (table_rule script_rows) script_form levels signs t us rest
@@ -78,7 +78,7 @@ from_deep signs t us rest d = spells_same (table_heads script_rows) is_deep true
 abbrev reads_deep : List Sign → Read Role Tree
 reads_deep signs = reads_with (table_heads script_rows) deep_rule script_form levels signs
 
-row_reads : (signs : List Sign) → read_row script_row signs ≡ reads_deep signs
+row_reads : (signs : List Sign) → read_script signs ≡ reads_deep signs
 unfolding read_sort
 row_reads signs = reads_same (table_heads script_rows) is_deep true (read_sort (table_heads script_rows) (table_rule script_rows) levels) (read_sort (table_heads script_rows) deep_rule levels) (sorts_same (table_heads script_rows) is_deep (table_rule script_rows) deep_rule agree closed levels) script_form script_deep signs
 
@@ -123,18 +123,18 @@ read_whole limit live end signs steps (Ok x) i e = by_rest x.rest refl where
       ]
   by_rest (s ∷ l) j = absurd (let k = ap (to_end limit live end x.value) (sym j) ∙ e in cc)
 
-pub accepts : (limit live from : ℕ) (signs : List Sign) (steps : List Tree) → script_of script_row limit live from signs ≡ Ok steps → Takes limit live signs steps
+pub accepts : (limit live from : ℕ) (signs : List Sign) (steps : List Tree) → script_of limit live from signs ≡ Ok steps → Takes limit live signs steps
 unfolding script_of
 accepts limit live from signs steps e = read_whole limit live (from + length signs) signs steps (reads_deep signs) refl (ap (of_read limit live (from + length signs)) (sym (row_reads signs)) ∙ e)
 
-by_read : (limit live from : ℕ) (signs : List Sign) (t : Tree) (us : List (Use Role)) → IsScript signs t us → script_of script_row limit live from signs ≡ with_room limit live t
+by_read : (limit live from : ℕ) (signs : List Sign) (t : Tree) (us : List (Use Role)) → IsScript signs t us → script_of limit live from signs ≡ with_room limit live t
 unfolding script_of
 by_read limit live from signs t us d = ap (of_read limit live (from + length signs)) (row_reads signs ∙ deep_complete signs t us d)
 
-pub takes : (limit live from : ℕ) (signs : List Sign) (t : Tree) (us : List (Use Role)) → IsScript signs t us → live + nodes_of t ≤ limit → script_of script_row limit live from signs ≡ Ok (items t)
+pub takes : (limit live from : ℕ) (signs : List Sign) (t : Tree) (us : List (Use Role)) → IsScript signs t us → live + nodes_of t ≤ limit → script_of limit live from signs ≡ Ok (items t)
 takes limit live from signs t us d l = by_read limit live from signs t us d ∙ roomy limit live t l
 
-pub fills : (limit live from : ℕ) (signs : List Sign) (t : Tree) (us : List (Use Role)) → IsScript signs t us → limit < live + nodes_of t → script_of script_row limit live from signs ≡ Err (Build (Full (nodes_of t)))
+pub fills : (limit live from : ℕ) (signs : List Sign) (t : Tree) (us : List (Use Role)) → IsScript signs t us → limit < live + nodes_of t → script_of limit live from signs ≡ Err (Build (Full (nodes_of t)))
 fills limit live from signs t us d l = by_read limit live from signs t us d ∙ full limit live t l
 
 -- what was refused
@@ -148,12 +148,7 @@ NotRead end token (Err (Nesting k)) = token ≡ end - k
 -- an error that names a token
 abbrev pub Names : ScriptError → ℕ → Type 0
 Names (Script k) token = k ≡ token
-Names (Unbuilt k) token = k ≡ token
 Names (Build e) token = ⊥
-
-stopped_names : (b : Bool) (k token : ℕ) (e : ScriptError) → (if b then Unbuilt k else Script k) ≡ e → Names e token → token ≡ k
-stopped_names true k token e i n = sym (subst (λ z. Names z token) (sym i) n)
-stopped_names false k token e i n = sym (subst (λ z. Names z token) (sym i) n)
 
 is_err : {A B : Type 0} (a b : B) → (let r : Result A B = Err a in r) ≡ Err b → a ≡ b
 is_err a b e = cc
@@ -170,8 +165,8 @@ not_read limit live end token e (Ok x) i n = by_rest x.rest refl where
         | inr w ↦ absurd (subst (λ z. Names z token) (is_err e (Build (Full (nodes_of x.value))) (sym k ∙ w)) n)
       ]
   by_rest (s ∷ l) j =
-      let k : (let r : Result (List Tree) ScriptError = Err (stop_at (end - length (s ∷ l)) (s ∷ l)) in r) ≡ Err e = ap (to_end limit live end x.value) (sym j) ∙ i in
-      let m = stopped_names (next_is begins_step (s ∷ l)) (end - length (s ∷ l)) token e (is_err (stop_at (end - length (s ∷ l)) (s ∷ l)) e k) n in
+      let k : (let r : Result (List Tree) ScriptError = Err (Script (end - length (s ∷ l))) in r) ≡ Err e = ap (to_end limit live end x.value) (sym j) ∙ i in
+      let m = sym (subst (λ z. Names z token) (sym (is_err (Script (end - length (s ∷ l))) e k)) n) in
       (let o = ap length j in omega (arith, o), m ∙ ap (λ z. end - length z) (sym j))
 
 dead : (from token : ℕ) (signs : List Sign) (r : Read Role Tree) → NotRead (from + length signs) token r → LocalAt reads_deep signs r → Dead IsSomeScript signs (from + length signs - token)
@@ -205,6 +200,6 @@ dead from token signs (Ok x) i l = record {
     behind (u ∷ us) [] h s end e f = s
     behind (u ∷ us) (v ∷ more) h s end e f = let g = sym e ∙ f in cc
 
-pub refuses : (limit live from : ℕ) (signs : List Sign) (token : ℕ) (e : ScriptError) → Names e token → script_of script_row limit live from signs ≡ Err e → Dead IsSomeScript signs (from + length signs - token)
+pub refuses : (limit live from : ℕ) (signs : List Sign) (token : ℕ) (e : ScriptError) → Names e token → script_of limit live from signs ≡ Err e → Dead IsSomeScript signs (from + length signs - token)
 unfolding script_of
 refuses limit live from signs token e n i = dead from token signs (reads_deep signs) (not_read limit live (from + length signs) token e (reads_deep signs) (ap (of_read limit live (from + length signs)) (sym (row_reads signs)) ∙ i) n) (deep_local signs)

@@ -7,7 +7,7 @@ use Rattle.cv_parse_notation.specs.Fits.{fits, fitting}
 use Rattle.cv_parse_notation.specs.Spells.{Kind, is_mark, is_steady}
 use Rattle.cv_parse_grammar.specs.declared.role.Role.{Role}
 use Rattle.cv_parse_grammar.specs.Marks.{marked_tails}
-use Rattle.cv_parse_grammar.specs.Phrases.{Sort, Term, Conjunction, Primary, Unequal, Arguments, Subscript, Parentheses, Inputs, Input, Output, Pattern, Sending, Payload, Variables, Indices, ProcessBranch, Cells, OneCell, Body, BodyBranch, LeftFunction, RightFunction, RightRest, Braces}
+use Rattle.cv_parse_grammar.specs.Phrases.{Sort, Term, Conjunction, Primary, Unequal, Arguments, Subscript, Parentheses, Inputs, Input, Output, Pattern, Sending, Payload, Variables, Indices, ProcessBranch, Cells, OneCell, Body, BodyBranch, LeftFunction, RightFunction, RightRest, RightSide, Braces}
 use Rattle.cv_parse_tables.specs.Table.{Nowhere, OfFiles, Row, TableSort, table_heads, table_rule}
 use Rattle.cv_script.specs.rows.Rows.{script_rows}
 use Rattle.cv_script_laws.specs.forms.Scripts.{script_form}
@@ -65,6 +65,7 @@ file_phrases_fit BodyBranch = refl
 file_phrases_fit LeftFunction = refl
 file_phrases_fit RightFunction = refl
 file_phrases_fit RightRest = refl
+file_phrases_fit RightSide = refl
 file_phrases_fit Braces = refl
 
 row_fits : (r : ℕ) → Fit (Row r)

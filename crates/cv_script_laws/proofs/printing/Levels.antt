@@ -46,8 +46,8 @@ module _ (count : ℕ) (some : nat_lt 0 count ≡ true) where
   MadeOver n k r l = RowMade (NameIs count some) (NumberIs count some) (IsText count some) (BelowIs count some (IsTree script_rows n)) script_rows k r l
 
   -- the trees of a row with n levels and one, where those below are such
-  made_over : (n : ℕ) → ((r : ℕ) (ts : List Sign) (t : Tree) (us : Uses) (rest : List Sign) → IsSort (table_heads script_rows) deep_rule n (Row r) ts t us rest → AreGood count ts → IsKnownTree n r t × AreGood count rest) → (r : ℕ) (ts : List Sign) (l : List Tree) (us : Uses) (rest : List Sign) → SpellsWith (table_heads script_rows) deep_rule (row_phrase script_rows r) n ts l us rest → AreGood count ts → MadeOver n 160 r l × AreGood count rest
-  made_over n low r ts l us rest d w = of_row (NameIs count some) (NumberIs count some) (IsText count some) (BelowIs count some (IsTree script_rows n)) (IsGood count) (table_heads script_rows) true (IsSort (table_heads script_rows) deep_rule n) (λ x s g. g) (λ v g. g.1) (text_is_known count some n) low (nowhere n) script_rows 160 r ts l us rest d w
+  made_over : (n : ℕ) → ((r : ℕ) (ts : List Sign) (t : Tree) (us : Uses) (rest : List Sign) → IsSort (table_heads script_rows) deep_rule n (Row r) ts t us rest → AreGood count ts → IsKnownTree n r t × AreGood count rest) → (r : ℕ) (ts : List Sign) (l : List Tree) (us : Uses) (rest : List Sign) → SpellsWith (table_heads script_rows) deep_rule (row_phrase script_rows r) n ts l us rest → AreGood count ts → MadeOver n 159 r l × AreGood count rest
+  made_over n low r ts l us rest d w = of_row (NameIs count some) (NumberIs count some) (IsText count some) (BelowIs count some (IsTree script_rows n)) (IsGood count) (table_heads script_rows) true (IsSort (table_heads script_rows) deep_rule n) (λ x s g. g) (λ v g. g.1) (text_is_known count some n) low (nowhere n) script_rows 159 r ts l us rest d w
 
   pub line_is_tree : (n r : ℕ) (ts : List Sign) (t : Tree) (us : Uses) (rest : List Sign) → IsSort (table_heads script_rows) deep_rule n (Row r) ts t us rest → AreGood count ts → IsKnownTree n r t × AreGood count rest
   unfolding IsSort
@@ -64,5 +64,5 @@ module _ (count : ℕ) (some : nat_lt 0 count ≡ true) where
     by_test false d low = absurd (nowhere n ts t us rest d)
 
   -- what is made of a row, with n levels and one
-  pub row_is_made : (n r : ℕ) (ts : List Sign) (l : List Tree) (us : Uses) (rest : List Sign) → SpellsWith (table_heads script_rows) deep_rule (row_phrase script_rows r) n ts l us rest → AreGood count ts → MadeOver n 160 r l
+  pub row_is_made : (n r : ℕ) (ts : List Sign) (l : List Tree) (us : Uses) (rest : List Sign) → SpellsWith (table_heads script_rows) deep_rule (row_phrase script_rows r) n ts l us rest → AreGood count ts → MadeOver n 159 r l
   row_is_made n r ts l us rest d w = (made_over n (line_is_tree n) r ts l us rest d w).0

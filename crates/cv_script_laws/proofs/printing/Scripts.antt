@@ -25,7 +25,7 @@ use Rattle.cv_print_scripts.specs.steps.Trees.{Behind, IsTree, JustOne, Makes}
 use Rattle.cv_script.specs.rows.Rows.{script_row, script_rows, step_row}
 use Rattle.cv_script.specs.Text.{step_text, text_levels}
 use Rattle.cv_script_laws.proofs.forms.Made.{AtRow, OneMade, row_at, row_from}
-use Rattle.cv_script_laws.proofs.forms.Reading.{row_is_read}
+use Rattle.cv_script_laws.proofs.forms.Deciding.{accepts, to_deep}
 use Rattle.cv_script_laws.specs.printing.Trees.{IsKnownStep, IsReadBack}
 use Rattle.cv_script_laws.proofs.printing.Files.{AreGood, IsText}
 use Rattle.cv_script_laws.proofs.printing.Good.{script_good}
@@ -56,32 +56,32 @@ module _ (count : ℕ) (some : nat_lt 0 count ≡ true) where
   one_over ts d = (d.first.0, d.parts ∙ (ap (λ z. z ++ d.back) d.first.1 ∙ ap (λ z. d.first.0 ∷ z) d.second))
 
   -- a row of steps makes one tree
-  one_tree : (ts : List Tree) → OneOf 154 134 19 ts → (t : Tree) × (ts ≡ t ∷ [])
-  one_tree ts (inl d) = one_over ts (row 154 134 refl ts d)
-  one_tree ts (inr (inl d)) = one_over ts (row 154 135 refl ts d)
-  one_tree ts (inr (inr (inl d))) = one_over ts (row 154 136 refl ts d)
-  one_tree ts (inr (inr (inr (inl d)))) = one_over ts (row 154 137 refl ts d)
-  one_tree ts (inr (inr (inr (inr (inl d))))) = one_over ts (row 154 138 refl ts d)
-  one_tree ts (inr (inr (inr (inr (inr (inl d)))))) = one_over ts (row 154 139 refl ts d)
-  one_tree ts (inr (inr (inr (inr (inr (inr (inl d))))))) = one_over ts (row 154 140 refl ts d)
-  one_tree ts (inr (inr (inr (inr (inr (inr (inr (inl d)))))))) = one_over ts (row 154 141 refl ts d)
-  one_tree ts (inr (inr (inr (inr (inr (inr (inr (inr (inl d))))))))) = one_over ts (row 154 142 refl ts d)
-  one_tree ts (inr (inr (inr (inr (inr (inr (inr (inr (inr (inl d)))))))))) = one_over ts (row 154 143 refl ts d)
-  one_tree ts (inr (inr (inr (inr (inr (inr (inr (inr (inr (inr (inl d))))))))))) = one_over ts (row 154 144 refl ts d)
-  one_tree ts (inr (inr (inr (inr (inr (inr (inr (inr (inr (inr (inr (inl d)))))))))))) = one_over ts (row 154 145 refl ts d)
-  one_tree ts (inr (inr (inr (inr (inr (inr (inr (inr (inr (inr (inr (inr (inl d))))))))))))) = one_over ts (row 154 146 refl ts d)
-  one_tree ts (inr (inr (inr (inr (inr (inr (inr (inr (inr (inr (inr (inr (inr (inl d)))))))))))))) = one_over ts (row 154 147 refl ts d)
-  one_tree ts (inr (inr (inr (inr (inr (inr (inr (inr (inr (inr (inr (inr (inr (inr (inl d))))))))))))))) = one_over ts (row 154 148 refl ts d)
-  one_tree ts (inr (inr (inr (inr (inr (inr (inr (inr (inr (inr (inr (inr (inr (inr (inr (inl d)))))))))))))))) = one_over ts (row 154 149 refl ts d)
-  one_tree ts (inr (inr (inr (inr (inr (inr (inr (inr (inr (inr (inr (inr (inr (inr (inr (inr (inl d))))))))))))))))) = one_over ts (row 154 150 refl ts d)
-  one_tree ts (inr (inr (inr (inr (inr (inr (inr (inr (inr (inr (inr (inr (inr (inr (inr (inr (inr (inl d)))))))))))))))))) = one_over ts (row 154 151 refl ts d)
-  one_tree ts (inr (inr (inr (inr (inr (inr (inr (inr (inr (inr (inr (inr (inr (inr (inr (inr (inr (inr (inl d))))))))))))))))))) = one_over ts (row 154 152 refl ts d)
+  one_tree : (ts : List Tree) → OneOf 156 136 19 ts → (t : Tree) × (ts ≡ t ∷ [])
+  one_tree ts (inl d) = one_over ts (row 156 136 refl ts d)
+  one_tree ts (inr (inl d)) = one_over ts (row 156 137 refl ts d)
+  one_tree ts (inr (inr (inl d))) = one_over ts (row 156 138 refl ts d)
+  one_tree ts (inr (inr (inr (inl d)))) = one_over ts (row 156 139 refl ts d)
+  one_tree ts (inr (inr (inr (inr (inl d))))) = one_over ts (row 156 140 refl ts d)
+  one_tree ts (inr (inr (inr (inr (inr (inl d)))))) = one_over ts (row 156 141 refl ts d)
+  one_tree ts (inr (inr (inr (inr (inr (inr (inl d))))))) = one_over ts (row 156 142 refl ts d)
+  one_tree ts (inr (inr (inr (inr (inr (inr (inr (inl d)))))))) = one_over ts (row 156 143 refl ts d)
+  one_tree ts (inr (inr (inr (inr (inr (inr (inr (inr (inl d))))))))) = one_over ts (row 156 144 refl ts d)
+  one_tree ts (inr (inr (inr (inr (inr (inr (inr (inr (inr (inl d)))))))))) = one_over ts (row 156 145 refl ts d)
+  one_tree ts (inr (inr (inr (inr (inr (inr (inr (inr (inr (inr (inl d))))))))))) = one_over ts (row 156 146 refl ts d)
+  one_tree ts (inr (inr (inr (inr (inr (inr (inr (inr (inr (inr (inr (inl d)))))))))))) = one_over ts (row 156 147 refl ts d)
+  one_tree ts (inr (inr (inr (inr (inr (inr (inr (inr (inr (inr (inr (inr (inl d))))))))))))) = one_over ts (row 156 148 refl ts d)
+  one_tree ts (inr (inr (inr (inr (inr (inr (inr (inr (inr (inr (inr (inr (inr (inl d)))))))))))))) = one_over ts (row 156 149 refl ts d)
+  one_tree ts (inr (inr (inr (inr (inr (inr (inr (inr (inr (inr (inr (inr (inr (inr (inl d))))))))))))))) = one_over ts (row 156 150 refl ts d)
+  one_tree ts (inr (inr (inr (inr (inr (inr (inr (inr (inr (inr (inr (inr (inr (inr (inr (inl d)))))))))))))))) = one_over ts (row 156 151 refl ts d)
+  one_tree ts (inr (inr (inr (inr (inr (inr (inr (inr (inr (inr (inr (inr (inr (inr (inr (inr (inl d))))))))))))))))) = one_over ts (row 156 152 refl ts d)
+  one_tree ts (inr (inr (inr (inr (inr (inr (inr (inr (inr (inr (inr (inr (inr (inr (inr (inr (inr (inl d)))))))))))))))))) = one_over ts (row 156 153 refl ts d)
+  one_tree ts (inr (inr (inr (inr (inr (inr (inr (inr (inr (inr (inr (inr (inr (inr (inr (inr (inr (inr (inl d))))))))))))))))))) = one_over ts (row 156 154 refl ts d)
   one_tree ts (inr (inr (inr (inr (inr (inr (inr (inr (inr (inr (inr (inr (inr (inr (inr (inr (inr (inr (inr d))))))))))))))))))) = absurd d
 
   -- one of so many rows, and of more of them
-  one_below : (n r : ℕ) → r + n ≤ 153 → (ts : List Tree) → OneOf 154 r n ts → OneOf 153 r n ts
+  one_below : (n r : ℕ) → r + n ≤ 155 → (ts : List Tree) → OneOf 156 r n ts → OneOf 155 r n ts
   one_below zero r h ts d = d
-  one_below (suc n) r h ts (inl d) = inl (back 153 r (lt-ltb r 153 (omega arith)) ts (row 154 r (lt-ltb r 154 (omega arith)) ts d))
+  one_below (suc n) r h ts (inl d) = inl (back 155 r (lt-ltb r 155 (omega arith)) ts (row 156 r (lt-ltb r 156 (omega arith)) ts d))
   one_below (suc n) r h ts (inr d) = inr (one_below n (r + 1) (omega arith) ts d)
 
   -- a step that may be printed
@@ -89,25 +89,25 @@ module _ (count : ℕ) (some : nat_lt 0 count ≡ true) where
   IsStep t = IsTree script_rows text_levels step_row t
 
   -- a step with its semicolon
-  a_step : (ts : List Tree) → InRow 155 154 ts → (t : Tree) × (ts ≡ t ∷ []) × IsStep t
+  a_step : (ts : List Tree) → InRow 157 156 ts → (t : Tree) × (ts ≡ t ∷ []) × IsStep t
   a_step ts e =
-      let d = row 155 154 refl ts e in
+      let d = row 157 156 refl ts e in
       let x = one_tree d.front d.first in
       let rest : d.back ≡ [] = d.second.parts ∙ (ap (λ z. z ++ d.second.back) d.second.first ∙ d.second.second) in
-      let made = back 160 153 refl d.front (record { front = d.front; back = []; parts = sym (append-nil d.front); first = one_below 19 134 (omega arith) d.front d.first; second = refl }) in
+      let made = back 159 155 refl d.front (record { front = d.front; back = []; parts = sym (append-nil d.front); first = one_below 19 136 (omega arith) d.front d.first; second = refl }) in
       let y = script_tree count some levels step_row d.front made in
       (x.0, d.parts ∙ (ap (λ z. d.front ++ z) rest ∙ ap (λ z. z ++ []) x.1), subst (λ z. IsStep (single z)) x.1 y.0)
 
-  all_steps : (l : List (List Tree)) → AllByRecursion (InRow 155 154) l → AllByRecursion IsStep (all_of l)
+  all_steps : (l : List (List Tree)) → AllByRecursion (InRow 157 156) l → AllByRecursion IsStep (all_of l)
   all_steps [] d = tt
   all_steps (ts ∷ l) d = let x = a_step ts d.0 in subst (λ z. AllByRecursion IsStep (z ++ all_of l)) (sym x.1) (x.2, all_steps l d.1)
 
   -- the steps of a script
-  script_steps : (ts : List Tree) → InRow 160 156 ts → (l : List Tree) × (ts ≡ chain l ∷ []) × AllByRecursion IsStep l
+  script_steps : (ts : List Tree) → InRow 159 158 ts → (l : List Tree) × (ts ≡ chain l ∷ []) × AllByRecursion IsStep l
   script_steps ts e =
-      let d = row 160 156 refl ts e in
+      let d = row 159 158 refl ts e in
       let l = d.first.2.0 in
-      let b = row 156 155 refl l d.first.2.2 in
+      let b = row 158 157 refl l d.first.2.2 in
       let is : l ≡ all_of b.first.0 = b.parts ∙ (ap (λ z. b.front ++ z) b.second ∙ (append-nil b.front ∙ b.first.1)) in
       (l, d.parts ∙ (ap (λ z. z ++ d.back) d.first.1 ∙ ap (λ z. d.first.0 ∷ z) d.second) ∙ ap (λ t. t ∷ []) d.first.2.1, subst (AllByRecursion IsStep) (sym is) (all_steps b.first.0 b.first.2))
 
@@ -121,14 +121,15 @@ module _ (count : ℕ) (some : nat_lt 0 count ≡ true) where
   known_steps [] d k = tt
   known_steps (t ∷ l) d k = (record { tree = d.0; known = k.0 }, known_steps l d.1 k.1)
 
-  pub steps_known : (limit live from : ℕ) (signs : List Sign) (steps : List Tree) → AreGood count signs → script_of script_row limit live from signs ≡ Ok steps → AllByRecursion (IsKnownStep count) steps
+  pub steps_known : (limit live from : ℕ) (signs : List Sign) (steps : List Tree) → AreGood count signs → script_of limit live from signs ≡ Ok steps → AllByRecursion (IsKnownStep count) steps
   unfolding sorts_pass
   steps_known limit live from signs steps good e =
-      let r = row_is_read script_row refl refl limit live from signs steps e in
-      let m = row_is_made count some levels script_row signs r.spelled.0 r.uses [] r.spelled.1 good in
-      let s = script_steps r.spelled.0 m in
-      let known = subst (AreKnown count some) s.1 (script_tree count some levels script_row r.spelled.0 m).1 in
-      let is : steps ≡ s.0 = r.items ∙ (ap items_of (sym r.spelled.2 ∙ ap single s.1) ∙ items_of_chain s.0) in
+      let r = accepts limit live from signs steps e in
+      let spelled = to_deep signs r.script r.uses [] r.spelled in
+      let m = row_is_made count some levels script_row signs spelled.0 r.uses [] spelled.1 good in
+      let s = script_steps spelled.0 m in
+      let known = subst (AreKnown count some) s.1 (script_tree count some levels script_row spelled.0 m).1 in
+      let is : steps ≡ s.0 = r.items ∙ (ap items_of (sym spelled.2 ∙ ap single s.1) ∙ items_of_chain s.0) in
       subst (AllByRecursion (IsKnownStep count)) (sym is) (known_steps s.0 s.2 (items_known s.0 known.0))
 
 -- by tokens
@@ -143,10 +144,10 @@ module _ (names : List (List ℕ)) (tokens : List Token) (from to : ℕ) (are : 
   some_names : nat_lt 0 (length behind) ≡ true
   some_names = lt-ltb 0 (length behind) (slice_get_within behind 0 (codes "bool") known.bool_first)
 
-  pub read_known : (limit live : ℕ) (steps : List Tree) → script_read script_row limit live names tokens from to ≡ Ok steps → AllByRecursion (IsKnownStep (length behind)) steps
+  pub read_known : (limit live : ℕ) (steps : List Tree) → script_read limit live names tokens from to ≡ Ok steps → AllByRecursion (IsKnownStep (length behind)) steps
   read_known limit live steps e = steps_known (length behind) some_names limit live from (script_signs names (between from to tokens)).signs steps (script_good names tokens from to are within few known.bool_first) e
 
-  pub read_back : (limit live : ℕ) (steps : List Tree) → script_read script_row limit live names tokens from to ≡ Ok steps → AllByRecursion (IsReadBack behind) steps
+  pub read_back : (limit live : ℕ) (steps : List Tree) → script_read limit live names tokens from to ≡ Ok steps → AllByRecursion (IsReadBack behind) steps
   unfolding step_text
   read_back limit live steps e =
       AllByRecursion_weaker (IsKnownStep (length behind)) (IsReadBack behind) (λ t d. record {

@@ -182,5 +182,5 @@ module _ (count : ℕ) (some : nat_lt 0 count ≡ true) where
   tree_from table n r e ts d = let x = a_row (IsTree table n) table (length table) r e ts d in ((ts, refl, x.0), x.1)
 
   -- the same for the table of scripts
-  pub script_tree : (n r : ℕ) (ts : List Tree) → RowMade NameIs NumberIs (IsText count some) (BelowIs (IsTree script_rows n)) script_rows 160 r ts → IsTree script_rows (suc n) r (single ts) × AreKnown ts
+  pub script_tree : (n r : ℕ) (ts : List Tree) → RowMade NameIs NumberIs (IsText count some) (BelowIs (IsTree script_rows n)) script_rows 159 r ts → IsTree script_rows (suc n) r (single ts) × AreKnown ts
   script_tree n r ts d = tree_from script_rows n r scripts_are_plain ts d

@@ -5,64 +5,36 @@ ghost use Rattle.cv_parse_notation.specs.declared.sign.Sign.{Sign};
 ghost use Rattle.cv_parse_notation.specs.Spells.{Use};
 ghost use Rattle.cv_parse_notation.specs.Whole.{Dead};
 ghost use Rattle.cv_parse_grammar.specs.declared.role.Role.{Role};
-ghost use Rattle.cv_script.specs.rows.Rows.{script_row, built_script_row};
 ghost use Rattle.cv_script.specs.reader.Scripts.{items, script_of};
 ghost use Rattle.cv_syntax.specs.limits.Limits.{nodes_of};
-ghost use Rattle.cv_script.specs.declared.reader.error.ScriptError.TheVariants.{Build, Script, Unbuilt};
+ghost use Rattle.cv_script.specs.declared.reader.error.ScriptError.TheVariants.{Build, Script};
 ghost use Rattle.cv_script_laws.specs.forms.Scripts.{IsScript, IsSomeScript, Takes};
 ghost use Rattle.std.specs.List.{AllByRecursion};
-ghost use Rattle.cv_script_laws.specs.forms.Items.{HasItems, is_any, is_built};
+ghost use Rattle.cv_script_laws.specs.forms.Items.{HasItems};
 
 /// What is computed of a script's tokens is what they spell: its steps are the items of the tree that they spell, where
 /// the pool has room for it, they spell one script at most, and a token that is refused is one through which no script goes.
 pub fn scripts_are_decided()
     ensures accepted { (limit live from : ℕ) (signs : List Sign) (steps : List Tree) →
-        script_of script_row limit live from signs ≡ Ok steps → Takes limit live signs steps }
+        script_of limit live from signs ≡ Ok steps → Takes limit live signs steps }
     ensures taken { (limit live from : ℕ) (signs : List Sign) (script : Tree)
         (uses : List (Use Role)) →
         IsScript signs script uses → live + nodes_of script ≤ limit
-        → script_of script_row limit live from signs ≡ Ok (items script) }
+        → script_of limit live from signs ≡ Ok (items script) }
     ensures unique { (signs : List Sign) (s t : Tree) (us vs : List (Use Role)) →
         IsScript signs s us → IsScript signs t vs → s ≡ t }
     ensures full { (limit live from : ℕ) (signs : List Sign) (script : Tree)
         (uses : List (Use Role)) →
         IsScript signs script uses → limit < live + nodes_of script
-        → script_of script_row limit live from signs ≡ Err (Build (Full (nodes_of script))) }
+        → script_of limit live from signs ≡ Err (Build (Full (nodes_of script))) }
     ensures refused { (limit live from : ℕ) (signs : List Sign) (token : ℕ) →
-        script_of script_row limit live from signs ≡ Err (Script token)
-        → Dead IsSomeScript signs (from + length signs - token) }
-    ensures unbuilt { (limit live from : ℕ) (signs : List Sign) (token : ℕ) →
-        script_of script_row limit live from signs ≡ Err (Unbuilt token)
+        script_of limit live from signs ≡ Err (Script token)
         → Dead IsSomeScript signs (from + length signs - token) }
 {}
 
 /// Each tree of a script that was read has the items of a step: no view of it is missing.
 pub fn steps_have_items()
     ensures { (limit live from : ℕ) (signs : List Sign) (steps : List Tree) →
-        script_of script_row limit live from signs ≡ Ok steps →
-        AllByRecursion (HasItems is_any) steps }
-{}
-
-/// Of a script of built steps each one has the items of a step that has a rule.
-pub fn built_steps_have_rules()
-    ensures { (limit live from : ℕ) (signs : List Sign) (steps : List Tree) →
-        script_of built_script_row limit live from signs ≡ Ok steps →
-        AllByRecursion (HasItems is_built) steps }
-{}
-
-/// What is read as a script of built steps is read so as a script of any steps, and what is known of those holds of it.
-pub fn built_scripts_are_scripts()
-    ensures { (limit live from : ℕ) (signs : List Sign) (steps : List Tree) →
-        script_of built_script_row limit live from signs ≡ Ok steps →
-        script_of script_row limit live from signs ≡ Ok steps }
-{}
-
-/// A token that is refused of a script of built steps is refused of a script of any steps, so no script goes through it.
-pub fn built_refusals_are_refusals()
-    ensures refused { (limit live from : ℕ) (signs : List Sign) (token : ℕ) →
-        script_of built_script_row limit live from signs ≡ Err (Script token) →
-        script_of script_row limit live from signs ≡ Err (Script token) }
-    ensures dead { (limit live from : ℕ) (signs : List Sign) (token : ℕ) →
-        script_of built_script_row limit live from signs ≡ Err (Script token)
-        → Dead IsSomeScript signs (from + length signs - token) }
+        script_of limit live from signs ≡ Ok steps →
+        AllByRecursion HasItems steps }
 {}

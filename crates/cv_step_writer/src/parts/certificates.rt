@@ -3,7 +3,7 @@ ghost use Rattle.cv_syntax_trees.specs.declared.head.Head.TheVariants.{Cons};
 ghost use Rattle.cv_syntax.specs.declared.make.Make.TheVariants.{Over};
 ghost use Rattle.cv_syntax_trees.specs.Tree.{chain};
 ghost use Rattle.cv_syntax.specs.Postorder.{postorder};
-ghost use Rattle.cv_step_writer.specs.Certificates.{IsCertificateBelow, IsEntryBelow, IsPairBelow, IsRouteBelow, IsSecretPairBelow, certificate_tree, distinct_part, entry_tree, events_parts, pair_tree, route_tree, routes_tree, secret_pair_tree};
+ghost use Rattle.cv_step_writer.specs.Certificates.{IsCertificateBelow, IsEntryBelow, IsPairBelow, IsRouteBelow, IsSecretPairBelow, certificate_tree, chosen_tree, distinct_part, entry_tree, events_parts, pair_tree, route_tree, routes_tree, secret_pair_tree};
 
 use crate::certificates::{Certificate, Entry, Pair, Route, SecretPair};
 use crate::parts::items::{push_names, push_number, push_term, push_terms};
@@ -56,6 +56,27 @@ fn push_routes(makes: &mut Vec<Make>, pool: &Pool, routes: &[Route]) -> Result<(
     close_list(makes, routes.len())
 }
 
+/// Makes the routes of an entry, behind the number of their alternative where there is one.
+#[tactic(auto, unfolding(cv_syntax::specs::Postorder::postorder), using(crate::proofs::Making::making))]
+fn push_chosen(
+    makes: &mut Vec<Make>,
+    pool: &Pool,
+    alternative: Option<u64>,
+    routes: &[Route],
+) -> Result<(), AllocError>
+    requires { All (IsRouteBelow (length pool.now.trees)) routes.now }
+    ensures { OnOk result (makes.new.items
+        ≡ makes.old.items ++ postorder (chosen_tree pool.now.trees alternative routes.now)) }
+{
+    let Some(number) = alternative else {
+        return push_routes(makes, pool, routes);
+    };
+    push_number(makes, number)?;
+    push_routes(makes, pool, routes)?;
+    makes.push(Make::Over(Head::AlternativePart))?;
+    Ok(())
+}
+
 /// Makes an entry.
 #[tactic(auto, unfolding(cv_syntax::specs::Postorder::postorder), using(crate::proofs::Making::making))]
 fn push_entry(makes: &mut Vec<Make>, pool: &Pool, entry: &Entry) -> Result<(), AllocError>
@@ -75,11 +96,12 @@ fn push_entry(makes: &mut Vec<Make>, pool: &Pool, entry: &Entry) -> Result<(), A
         Entry::With {
             place,
             terms,
+            alternative,
             routes,
         } => {
             push_number(makes, *place)?;
             push_terms(makes, pool, terms)?;
-            push_routes(makes, pool, routes)?;
+            push_chosen(makes, pool, *alternative, routes)?;
             makes.push(Make::Over(Head::WithEntry))?;
             makes.push(Make::Over(Head::AtEntry))?;
             Ok(())

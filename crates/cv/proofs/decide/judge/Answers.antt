@@ -45,7 +45,7 @@ pub returns-in-Ok-clause-sound : goal.returns-in-Ok-clause-sound
 returns-in-Ok-clause-sound c =
     run_sound _ c.in-Ok.accepted.file _
     (advantages_of_file c.derivations_are_sound.ensures.hold c.derivations_are_sound.ensures.unreached _ c.args.bytes.now (reads_at _ c.args.bytes.now _ c.requires.limit c.in-Ok.ensures.reads) c.requires.few)
-    (report_sound c.derivations_are_sound.ensures.hold c.derivations_are_sound.ensures.unreached c.accepted_correspondences_are_within_their_costs.ensures.chance c.accepted_certificates_cost_a_number.ensures c.unread_choices_are_secret.ensures.secrecy c.unread_copies_are_secret_for_one_session.ensures.secrecy
+    (report_sound c.derivations_are_sound.ensures.hold c.derivations_are_sound.ensures.unreached c.accepted_correspondences_are_within_their_costs.ensures.chance c.accepted_certificates_cost_a_number.ensures c.accepted_secrets_have_no_advantage.ensures.many c.accepted_secrets_have_no_advantage.ensures.one
     c.accepted_exactly_where_nothing_fails.ensures _ c.in-Ok.accepted.file _ c.args.bytes.now (reads_at _ c.args.bytes.now _ c.requires.limit c.in-Ok.ensures.reads) c.requires.few)
     c.run_accepted.ensures.run
 

@@ -52,7 +52,6 @@ returns-clause-run c =
             made = t.0.made;
             counted = t.0.counted;
             few = t.0.few;
-            built = t.0.built;
             ends = t.0.ends;
           });
       status = search_may _ _ _ _ _ _ _ walk.status found.search.finds.ends;

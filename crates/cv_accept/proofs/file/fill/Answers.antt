@@ -6,13 +6,12 @@ use Rattle.cv_parse.specs.Nodes.{file_nodes}
 use Rattle.cv_parse.specs.Parsed.{held_in}
 use Rattle.cv_scope_rules.specs.Refusals.{IsRefusalOf}
 use Rattle.cv_scope_rules.specs.Scope.{first_scope_fault}
-use Rattle.cv_accept.specs.Accepted.{Refuses, asks_unbuilt, content_of}
-use Rattle.cv_accept.specs.Faults.{IsUnbuiltFault}
+use Rattle.cv_accept.specs.Accepted.{content_of}
 use Rattle.cv_accept.specs.Places.{behind}
 use Rattle.cv_accept.proofs.Blocks.{below_grown, block_as, content_same, few_names, held_grown, root_grown}
 use Rattle.cv_accept.proofs.Lengths.{few_tokens}
 use Rattle.cv_accept.proofs.Places.{none_behind, process_begins}
-use Rattle.cv_accept.proofs.Readings.{all_reads, block_refuses, block_within, by_block, form_refuses, by_groups, by_scope, by_types, grammar_refuses, group_refuses, lexis_refuses, query_refuses, reads_on, scope_refuses, types_refuse}
+use Rattle.cv_accept.proofs.Readings.{all_reads, block_refuses, block_within, by_block, by_groups, by_scope, by_types, grammar_refuses, group_refuses, lexis_refuses, query_refuses, reads_on, scope_refuses, types_refuse}
 use Rattle.cv_accept.proofs.Tokens.{are_tokens}
 use Rattle.cv_accept.proofs.Weights.{few_terms}
 use Rattle.cv_accept.proofs.file.fill.Goals as goal
@@ -44,27 +43,6 @@ returns-in_err-script-clause-reads c =
     let block = block_as old.pool.limit limit (length old.pool.trees) ts old.names (signs_of ts).names f.script trees (Err _) c.file.ensures.limit c.in_ok-file.ensures.names c.in_err-script.ensures.reads in
     reads_on limit bs c.read_block.new.work _ _ c.from_residual-in_err-script.ensures.1
     (block_refuses limit (length old.pool.trees) bs ts (held_in old.pool.trees old.decls.list f) c.in_ok-tokens.ensures.ok c.in_ok-file.ensures.parses trees _ c.in_ok-file.ensures.nodes block)
-
-pub check_certificates-requires-clause-declared : goal.check_certificates-requires-clause-declared
-check_certificates-requires-clause-declared c =
-    let old = c.file.new.work in
-    let new = c.read_block.new.work in
-    below_grown old.pool new.pool new.decls.list c.read_block.ensures.grows (subst (λ ds. All (IsBelow (length old.pool.trees)) ds.list) (sym c.read_block.ensures.decls) c.in_ok-file.ensures.below)
-
-pub returns-in_err-check_certificates-clause-reads : goal.returns-in_err-check_certificates-clause-reads
-returns-in_err-check_certificates-clause-reads c =
-    let limit = c.args.work.now.pool.limit in
-    let bs = c.args.bytes.now in
-    let ts = c.in_ok-tokens.tokens in
-    let f = c.in_ok-file.file in
-    let old = c.file.new.work in
-    let new = c.read_block.new.work in
-    let p = held_in new.pool.trees new.decls.list f in
-    let same = ap (λ ds. held_in new.pool.trees ds.list f) c.read_block.ensures.decls ∙ held_grown old.pool new.pool old.decls.list f c.read_block.ensures.grows c.in_ok-file.ensures.below c.in_ok-file.ensures.live in
-    let parses = c.in_ok-file.ensures.parses ∙ ap Ok (sym same) in
-    let block = block_as old.pool.limit limit (length old.pool.trees) ts old.names (signs_of ts).names f.script new.pool.trees (Ok c.in_ok-script.script) c.file.ensures.limit c.in_ok-file.ensures.names c.in_ok-script.ensures.reads in
-    let fault = subst (λ steps. IsUnbuiltFault (asks_unbuilt p.declarations steps) c.in_err-check_certificates.field-0.0) block.2 c.in_err-check_certificates.ensures.fault in
-    reads_on limit bs new _ _ c.from_residual-in_err-check_certificates.ensures.1 (form_refuses limit (length old.pool.trees) bs ts p c.in_ok-tokens.ensures.ok parses block.0 c.in_err-check_certificates.field-0.0 block.1 fault)
 
 pub check-requires-clause-declared : goal.check-requires-clause-declared
 check-requires-clause-declared c =
@@ -136,7 +114,7 @@ returns-in_err-nodes-clause-reads c =
     let parses = c.in_ok-file.ensures.parses ∙ ap Ok (sym same) in
     let block = block_as old.pool.limit limit (length old.pool.trees) ts old.names (signs_of ts).names f.script new.pool.trees (Ok c.in_ok-script.script) c.file.ensures.limit c.in_ok-file.ensures.names c.in_ok-script.ensures.reads in
     let content = content_of ts p block.0 in
-    let read = by_block limit (length old.pool.trees) bs ts p c.in_ok-tokens.ensures.ok parses block.0 block.1 (ap (asks_unbuilt p.declarations) (sym block.2) ∙ c.in_ok-check_certificates.ensures.built) in
+    let read = by_block limit (length old.pool.trees) bs ts p c.in_ok-tokens.ensures.ok parses block.0 block.1 in
     reads_on limit bs new _ _ c.from_residual-in_err-nodes.ensures.1 (types_refuse limit bs content p _ read c.in_err-nodes.ensures.found)
 
 pub returns-in_err-directory-2-clause-reads : goal.returns-in_err-directory-2-clause-reads
@@ -152,7 +130,7 @@ returns-in_err-directory-2-clause-reads c =
     let parses = c.in_ok-file.ensures.parses ∙ ap Ok (sym same) in
     let block = block_as old.pool.limit limit (length old.pool.trees) ts old.names (signs_of ts).names f.script new.pool.trees (Ok c.in_ok-script.script) c.file.ensures.limit c.in_ok-file.ensures.names c.in_ok-script.ensures.reads in
     let content = content_of ts p block.0 in
-    let read = by_block limit (length old.pool.trees) bs ts p c.in_ok-tokens.ensures.ok parses block.0 block.1 (ap (asks_unbuilt p.declarations) (sym block.2) ∙ c.in_ok-check_certificates.ensures.built) in
+    let read = by_block limit (length old.pool.trees) bs ts p c.in_ok-tokens.ensures.ok parses block.0 block.1 in
     let typed = by_types limit bs content p read c.in_ok-nodes.ensures.none in
     let begins = process_begins p.declarations p.game c.in_ok-nodes.nodes c.in_ok-nodes.ensures.place in
     let found = subst (λ n. IsRefusalOf (behind n (first_scope_fault p.declarations p.game)) c.in_err-directory-2.field-0.0) begins c.in_err-directory-2.ensures.found in
@@ -171,7 +149,7 @@ returns-in_err-check_all-clause-reads c =
     let parses = c.in_ok-file.ensures.parses ∙ ap Ok (sym same) in
     let block = block_as old.pool.limit limit (length old.pool.trees) ts old.names (signs_of ts).names f.script new.pool.trees (Ok c.in_ok-script.script) c.file.ensures.limit c.in_ok-file.ensures.names c.in_ok-script.ensures.reads in
     let content = content_of ts p block.0 in
-    let read = by_block limit (length old.pool.trees) bs ts p c.in_ok-tokens.ensures.ok parses block.0 block.1 (ap (asks_unbuilt p.declarations) (sym block.2) ∙ c.in_ok-check_certificates.ensures.built) in
+    let read = by_block limit (length old.pool.trees) bs ts p c.in_ok-tokens.ensures.ok parses block.0 block.1 in
     let typed = by_types limit bs content p read c.in_ok-nodes.ensures.none in
     let scoped = by_scope limit bs content p typed (none_behind _ (first_scope_fault p.declarations p.game) c.in_ok-directory-2.ensures.none) in
     reads_on limit bs new _ _ c.from_residual-in_err-check_all.ensures.1 (group_refuses limit bs content p _ _ scoped c.in_err-check_all.ensures.fault)
@@ -189,7 +167,7 @@ returns-in_err-check-clause-reads c =
     let parses = c.in_ok-file.ensures.parses ∙ ap Ok (sym same) in
     let block = block_as old.pool.limit limit (length old.pool.trees) ts old.names (signs_of ts).names f.script new.pool.trees (Ok c.in_ok-script.script) c.file.ensures.limit c.in_ok-file.ensures.names c.in_ok-script.ensures.reads in
     let content = content_of ts p block.0 in
-    let read = by_block limit (length old.pool.trees) bs ts p c.in_ok-tokens.ensures.ok parses block.0 block.1 (ap (asks_unbuilt p.declarations) (sym block.2) ∙ c.in_ok-check_certificates.ensures.built) in
+    let read = by_block limit (length old.pool.trees) bs ts p c.in_ok-tokens.ensures.ok parses block.0 block.1 in
     let typed = by_types limit bs content p read c.in_ok-nodes.ensures.none in
     let scoped = by_scope limit bs content p typed (none_behind _ (first_scope_fault p.declarations p.game) c.in_ok-directory-2.ensures.none) in
     let plain = by_groups limit bs content p scoped c.in_ok-check_all.ensures.none in
@@ -208,7 +186,7 @@ returns-clause-reads c =
     let parses = c.in_ok-file.ensures.parses ∙ ap Ok (sym same) in
     let block = block_as old.pool.limit limit (length old.pool.trees) ts old.names (signs_of ts).names f.script new.pool.trees (Ok c.in_ok-script.script) c.file.ensures.limit c.in_ok-file.ensures.names c.in_ok-script.ensures.reads in
     let content = content_of ts p block.0 in
-    let read = by_block limit (length old.pool.trees) bs ts p c.in_ok-tokens.ensures.ok parses block.0 block.1 (ap (asks_unbuilt p.declarations) (sym block.2) ∙ c.in_ok-check_certificates.ensures.built) in
+    let read = by_block limit (length old.pool.trees) bs ts p c.in_ok-tokens.ensures.ok parses block.0 block.1 in
     let typed = by_types limit bs content p read c.in_ok-nodes.ensures.none in
     let scoped = by_scope limit bs content p typed (none_behind _ (first_scope_fault p.declarations p.game) c.in_ok-directory-2.ensures.none) in
     let plain = by_groups limit bs content p scoped c.in_ok-check_all.ensures.none in

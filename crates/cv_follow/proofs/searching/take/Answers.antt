@@ -18,11 +18,6 @@ returns-then-not-may_move-clause-tried c = λ n ready.
     let w = with_names n c.args.work.now in
     comes_refused w w c.args.may_move c.args.sequence.now c.args.sequence.now c.args.trail.now.items c.args.trail.now.items (kept_none w c.args.sequence.now c.args.trail.now.items)
 
-pub returns-then-unbuilt-clause-tried : goal.returns-then-unbuilt-clause-tried
-returns-then-unbuilt-clause-tried c = λ n ready.
-    let w = with_names n c.args.work.now in
-    comes_refused w w c.args.may_move c.args.sequence.now c.args.sequence.now c.args.trail.now.items c.args.trail.now.items (kept_none w c.args.sequence.now c.args.trail.now.items)
-
 pub push-requires-clause-stands : goal.push-requires-clause-stands
 push-requires-clause-stands c = stands_now _ _ _ c.requires.empty c.requires.may.stands
 
@@ -49,7 +44,7 @@ returns-in_ok-note-in-Ok-clause-tried c = λ n ready start first below h.
     let next = found_more start w new first below s t trail h c.args.step c.requires.live after _ may c.in-Ok.ensures.pushed c.in_ok-note-in-Ok.ensures c.push.ensures.grows c.push.ensures.stands c.in-Ok.ensures.few names c.push.ensures.decls c.args.work.now.names ready c.in-Ok.ensures.drawn c.push.ensures.alone in
     let put = found_put start w new first below s t trail h c.args.step c.requires.live after _ may c.in-Ok.ensures.pushed c.in_ok-note-in-Ok.ensures c.push.ensures.grows c.push.ensures.stands c.in-Ok.ensures.few names c.push.ensures.decls c.args.work.now.names ready c.in-Ok.ensures.drawn c.push.ensures.alone in
     comes_more start w new first below s t trail h after step next put (may_next w new s t may c.push.ensures.grows c.push.ensures.stands c.push.ensures.decls)
-    (sym c.in_ok-unbuilt.ensures ∙ c.if-unbuilt.false) c.args.advised c.is_move-moved.result c.args.may_move c.is_move-moved.ensures (move_allowed c.is_move-moved.result c.args.may_move c.else-moved.either)
+    c.args.advised c.is_move-moved.result c.args.may_move c.is_move-moved.ensures (move_allowed c.is_move-moved.result c.args.may_move c.else-moved.either)
 
 pub returns-in-Some-clause-tried : goal.returns-in-Some-clause-tried
 returns-in-Some-clause-tried c = λ n ready start first below h.

@@ -13,4 +13,4 @@ returns-in-Never c =
 pub returns-then-not-is_number : goal.returns-then-not-is_number
 returns-then-not-is_number c =
     let trees = trees_of c.args.view.now in
-    form_of (scene_of c.args.view.now) (asked_of trees c.args.asked.now) c.args.place (tree_at trees c.args.part) _ _ (sym (ap (saying_seen trees) c.in-With.is) ∙ c.entry_of.ensures.saying) (number_first (scene_of c.args.view.now) (asked_of trees c.args.asked.now) c.args.place (tree_at trees c.in-With.n) (tree_at trees c.in-With.witnesses) (tree_at trees c.in-With.routes) c.is_number-in-With.result c.is_number-in-With.ensures c.if-not-is_number.true)
+    form_of (scene_of c.args.view.now) (asked_of trees c.args.asked.now) c.args.place (tree_at trees c.args.part) _ _ (sym (ap (saying_seen trees) c.in-With.is) ∙ c.entry_of.ensures.saying) (number_first (scene_of c.args.view.now) (asked_of trees c.args.asked.now) c.args.place (tree_at trees c.in-With.n) (tree_at trees c.in-With.witnesses) (tree_at trees c.in-With.choice) c.is_number-in-With.result c.is_number-in-With.ensures c.if-not-is_number.true)

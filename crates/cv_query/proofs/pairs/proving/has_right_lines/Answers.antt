@@ -8,7 +8,6 @@ use Rattle.cv_scene.specs.Pairs.{pair_at, second_indices}
 use Rattle.cv_scene.specs.Scenes.{Scene}
 use Rattle.cv_scene.specs.Terms.{above_under, replications_at}
 use Rattle.cv_scene_view.specs.Kept.{scene_of}
-use Rattle.cv_derive.specs.Seconds.{IsSecond}
 use Rattle.cv_query.specs.pairs.Proved.{near}
 use Rattle.cv_query.proofs.pairs.Tried.{near_at, near_lines}
 use Rattle.cv_query.proofs.pairs.proving.has_right_lines.Goals as goal

@@ -11,7 +11,7 @@ binders-preserved-in_ok-push c =
     let trees = c.args.pool.now.trees in
     let cell = c.read_node-cell.result in
     let xs = leaf_names (tree_at trees c.args.variables) in
-    let atoms = tree_at trees c.args.atoms in
+    let atoms = tree_at trees c.args.right in
     record {
       live = child_live (length trees) c.binders.at c.in-Some.n cell.second c.in-Some.is c.binders.invariant.live c.read_node-cell.ensures.second;
       same = ap (λ ys. ys ++ alone_of xs atoms (tree_at trees cell.second)) c.in_ok-push.ensures.items
@@ -25,7 +25,7 @@ binders-preserved c =
     let trees = c.args.pool.now.trees in
     let cell = c.read_node-cell.result in
     let xs = leaf_names (tree_at trees c.args.variables) in
-    let atoms = tree_at trees c.args.atoms in
+    let atoms = tree_at trees c.args.right in
     record {
       live = child_live (length trees) c.binders.at c.in-Some.n cell.second c.in-Some.is c.binders.invariant.live c.read_node-cell.ensures.second;
       same = alone_dropped xs atoms (tree_at trees c.binders.at) cell.head (tree_at trees cell.first) (tree_at trees cell.second) (node_at trees c.binders.at c.in-Some.n cell c.in-Some.is c.read_node-cell.ensures.tree) c.in-Binder.x c.in-Binder.t c.in-Binder.is c.binders.found.items
@@ -37,9 +37,9 @@ pub returns-in_default-head : goal.returns-in_default-head
 returns-in_default-head c =
     let trees = c.args.pool.now.trees in
     let cell = c.read_node-cell.result in
-    alone_other (leaf_names (tree_at trees c.args.variables)) (tree_at trees c.args.atoms) (tree_at trees c.binders.at) cell.head (tree_at trees cell.first) (tree_at trees cell.second) (node_at trees c.binders.at c.in-Some.n cell c.in-Some.is c.read_node-cell.ensures.tree) c.binders.found.items c.in_default-head.not-Binder ∙ c.binders.invariant.same
+    alone_other (leaf_names (tree_at trees c.args.variables)) (tree_at trees c.args.right) (tree_at trees c.binders.at) cell.head (tree_at trees cell.first) (tree_at trees cell.second) (node_at trees c.binders.at c.in-Some.n cell c.in-Some.is c.read_node-cell.ensures.tree) c.binders.found.items c.in_default-head.not-Binder ∙ c.binders.invariant.same
 
 pub returns : goal.returns
 returns c =
     let trees = c.args.pool.now.trees in
-    alone_end (leaf_names (tree_at trees c.args.variables)) (tree_at trees c.args.atoms) (tree_at trees c.binders.at) c.binders.found.items (empty_at trees c.binders.at c.in_default.is) ∙ c.binders.invariant.same
+    alone_end (leaf_names (tree_at trees c.args.variables)) (tree_at trees c.args.right) (tree_at trees c.binders.at) c.binders.found.items (empty_at trees c.binders.at c.in_default.is) ∙ c.binders.invariant.same

@@ -9,7 +9,7 @@ use Rattle.cv_query_entries.proofs.terms.sides.right_alone.Given as goal
 abbrev pub invariant-binders : goal.invariant-binders
 invariant-binders l = record {
   live : ChildBelow (length l.pool.trees) l.at;
-  same : l.found.items ++ alone_of (leaf_names (tree_at l.pool.trees l.fn.variables)) (tree_at l.pool.trees l.fn.atoms) (tree_at l.pool.trees l.at) ≡ alone_of (leaf_names (tree_at l.pool.trees l.fn.variables)) (tree_at l.pool.trees l.fn.atoms) (tree_at l.pool.trees l.fn.binders);
+  same : l.found.items ++ alone_of (leaf_names (tree_at l.pool.trees l.fn.variables)) (tree_at l.pool.trees l.fn.right) (tree_at l.pool.trees l.at) ≡ alone_of (leaf_names (tree_at l.pool.trees l.fn.variables)) (tree_at l.pool.trees l.fn.right) (tree_at l.pool.trees l.fn.binders);
 }
 
 abbrev pub decreases-binders : goal.decreases-binders

@@ -1,6 +1,5 @@
 use Rattle.std.proofs.Common.{rules, arith, ◌≡◌, ◌∙◌, ap, length, map, min, sym}
 use Rattle.std.proofs.lemmas.Result.{on_ok_weaker}
-use Rattle.cv_syntax.specs.Postorder.{postorder}
 use Rattle.cv_syntax_trees.specs.Tree.{chain}
 use Rattle.cv_scene.specs.Pairs.{of_second}
 use Rattle.cv_query_certificates.specs.Pairs.{equations_between}

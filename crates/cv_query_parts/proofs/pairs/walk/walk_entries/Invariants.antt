@@ -1,19 +1,11 @@
-use Rattle.std.proofs.Common.{None, length}
-use Rattle.cv_pool.specs.Nodes.{ChildBelow}
-use Rattle.cv_syntax.specs.PoolTrees.{tree_at}
-use Rattle.cv_syntax.specs.Walks.{above}
-use Rattle.cv_meaning.specs.Correspondences.{atoms_of}
-use Rattle.cv_query_certificates.specs.Pairs.{needed_from, routes_in}
-use Rattle.cv_query_parts.specs.pairs.Walks.{IsWalked, Leads}
+use Rattle.std.proofs.Common.{None}
+use Rattle.cv_query_parts.specs.pairs.Walks.{IsWalked, Leads, needed_of_route}
+use Rattle.cv_query_parts.proofs.pairs.Walking.{all_from}
 use Rattle.cv_query_parts.proofs.pairs.walk.walk_entries.Given as goal
 
-abbrev pub invariant-parts : goal.invariant-parts
-invariant-parts l = record {
+abbrev pub invariant-routes : goal.invariant-routes
+invariant-routes l = record {
   walked : IsWalked l.pool.trees l.walk;
-  live : ChildBelow (length l.pool.trees) l.at;
-  leads : Leads l.pool.trees l.fn.walk l.walk None (λ s k. needed_from s k (atoms_of (tree_at l.pool.trees l.atoms)) (l.first, tree_at l.pool.trees l.routes) (routes_in (tree_at l.pool.trees l.fn.parts)))
-      (λ s k. needed_from s k (atoms_of (tree_at l.pool.trees l.atoms)) (l.first, tree_at l.pool.trees l.routes) (routes_in (tree_at l.pool.trees l.at)));
+  leads : Leads l.pool.trees l.fn.walk l.walk None (all_from l.pool.trees (λ r s k. needed_of_route s k l.pool.trees l.entry.place l.other.place r l.others) l.routes 0)
+      (all_from l.pool.trees (λ r s k. needed_of_route s k l.pool.trees l.entry.place l.other.place r l.others) l.routes l.j);
 }
-
-abbrev pub decreases-parts : goal.decreases-parts
-decreases-parts l = above l.at

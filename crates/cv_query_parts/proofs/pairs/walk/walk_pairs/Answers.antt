@@ -1,6 +1,4 @@
-use Rattle.std.proofs.Common.{ℕ}
 use Rattle.cv_syntax.specs.PoolTrees.{tree_at}
-use Rattle.cv_scene.specs.Scenes.{Scene}
 use Rattle.cv_query_certificates.specs.Pairs.{needed_pairs}
 use Rattle.cv_query_parts.specs.Views.{asked_of}
 use Rattle.cv_query_parts.specs.declared.pairs.walk.Walk.{Walk}

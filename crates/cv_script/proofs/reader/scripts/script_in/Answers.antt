@@ -6,7 +6,7 @@ pub returns-clause-reads : goal.returns-clause-reads
 returns-clause-reads c =
     let d = c.in_ok-read.ensures in
     let parts = c.deref.ensures.value ∙ only_parts _ _ _ c.new-trail.ensures.makes d.parts in
-    plants c.args.row c.args.pool.now.limit (length c.args.pool.now.trees) c.args.from c.args.signs.now _ _ d c.plant_steps.new.pool.trees c.plant_steps.result (c.plant_steps.ensures.steps d.value parts) (c.plant_steps.ensures.room d.value parts) (c.plant_steps.ensures.crowds d.value parts)
+    plants c.args.pool.now.limit (length c.args.pool.now.trees) c.args.from c.args.signs.now _ _ d c.plant_steps.new.pool.trees c.plant_steps.result (c.plant_steps.ensures.steps d.value parts) (c.plant_steps.ensures.room d.value parts) (c.plant_steps.ensures.crowds d.value parts)
 
 pub returns-clause-few : goal.returns-clause-few
 returns-clause-few c =

@@ -1,5 +1,5 @@
 use Rattle.std.proofs.Common.{refl}
-use Rattle.cv_script.specs.declared.reader.error.ScriptError.TheVariants.{Script, Unbuilt}
+use Rattle.cv_script.specs.declared.reader.error.ScriptError.TheVariants.{Script}
 use Rattle.cv_script_laws.proofs.forms.Deciding.{accepts, fills, one_script, refuses, takes}
 use Rattle.cv_script_laws.proofs.forms.laws.scripts_are_decided.Goals as goal
 
@@ -17,6 +17,3 @@ returns-clause-full c = fills
 
 pub returns-clause-refused : goal.returns-clause-refused
 returns-clause-refused c = λ limit live from signs token e. refuses limit live from signs token (Script token) refl e
-
-pub returns-clause-unbuilt : goal.returns-clause-unbuilt
-returns-clause-unbuilt c = λ limit live from signs token e. refuses limit live from signs token (Unbuilt token) refl e
