@@ -56,7 +56,7 @@ use Rattle.cv.proofs.Causing.{where_told}
 use Rattle.cv.proofs.Commands.{Speaks, speaks_under}
 use Rattle.cv_follow.specs.Fillings.{StandsBy, StandsFor, has_word}
 use Rattle.cv_follow.specs.Searches.{EndsSearch, Passes, by_limit, by_room, by_step, end_of_search, without_more}
-use Rattle.cv_lists.proofs.Options.{some_injective}
+use Rattle.cv_syntax_trees.proofs.lists.Options.{some_injective}
 use Rattle.cv_report.specs.declared.report.Cause.TheVariants.{Moves, Stuck}
 use Rattle.cv_report.specs.declared.report.Which.{Which}
 use Rattle.cv.proofs.Verdicts.{judged_fault}

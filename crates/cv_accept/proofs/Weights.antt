@@ -7,7 +7,7 @@ use Rattle.cv_parse.specs.Parsed.{Parsed, parsed, weight_of}
 use Rattle.cv_parse.specs.Weights.{declared_weight, tree_weight}
 use Rattle.cv_parse.proofs.Exactness.{said_is_saying}
 use Rattle.cv_parse_declarations.specs.signature.Declares.{tree_in}
-use Rattle.cv_directory_sorts.specs.declared.sort.Sort.{Sort}
+use Rattle.cv_syntax_trees.specs.declared.sites.sort.Sort.{Sort}
 use Rattle.cv_scope_rules.specs.typing.Parts.{Part, body_parts, declaration_parts, equivalence_parts, file_parts, game_part, more_results, results, side_arrays}
 use Rattle.cv_scope_rules.specs.typing.Refusals.{parts_size}
 use Rattle.cv_scope_rules.specs.typing.Signature.{Arrays}

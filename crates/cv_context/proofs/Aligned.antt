@@ -6,8 +6,7 @@ use Rattle.std.specs.List.{All, AllByRecursion}
 use Rattle.std.specs.Prelude.{slice_get}
 use Rattle.cv_pool.specs.KindTree.{KindTree}
 use Rattle.cv_syntax_trees.specs.declared.head.Head.{Head}
-use Rattle.cv_syntax_trees.specs.declared.head.Head.TheVariants.{And, Apply, Eq, Key, Leaf, New, No, Not, Or, Read, Yes}
-use Rattle.cv_syntax_trees.specs.declared.head.Head.TheVariants.{Call as CallHead}
+use Rattle.cv_syntax_trees.specs.declared.head.Head.TheVariants.{And, Apply, Eq, Key, Leaf, New, No, Not, Or, Read, Yes, Call as CallHead}
 use Rattle.cv_syntax_trees.specs.Head.{weight}
 use Rattle.cv_syntax.specs.NameSets.{is_in}
 use Rattle.cv_pool.specs.declared.node.NodeId.{NodeId}
@@ -32,7 +31,7 @@ use Rattle.cv_context.specs.Roles.{AreSitesOf, is_coin_at, name_at, reads_at, re
 use Rattle.cv_context.specs.Written.{Part, before, is_place, is_site, joined, node_in, part_at, part_unless}
 use Rattle.cv_context.proofs.Drawn.{found}
 use Rattle.cv_context.proofs.Walking.{at_node, at_site, skipped, whole}
-use Rattle.cv_lists.proofs.Each.{AllByRecursion_append}
+use Rattle.cv_syntax_trees.proofs.lists.Each.{AllByRecursion_append}
 
 later : (m n : ℕ) → m ≤ n → (ss : List instances.Site) → AllByRecursion (λ (s : instances.Site). n ≤ s.place) ss → AllByRecursion (λ (s : instances.Site). m ≤ s.place) ss
 later m n l [] e = tt

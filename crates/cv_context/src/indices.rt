@@ -3,8 +3,8 @@
 ghost use Rattle.std.specs.Prelude.{◌≡◌, ℕ, List, [], Some, true};
 ghost use Rattle.cv_syntax_trees.specs.Declarations.{Declaration};
 ghost use Rattle.cv_syntax_trees.specs.Tree.{Tree};
-ghost use Rattle.cv_directory_sorts.specs.declared.sort.Sort.TheVariants.{OfType};
-ghost use Rattle.cv_directory_sorts.specs.Sites.{sites_of};
+ghost use Rattle.cv_syntax_trees.specs.declared.sites.sort.Sort.TheVariants.{OfType};
+ghost use Rattle.cv_syntax_trees.specs.sites.Sites.{sites_of};
 ghost use Rattle.cv_scope_rules.specs.Phrases.{Inputs, IsWellFormed, is_phrase};
 ghost use Rattle.cv_scope_rules.specs.Scope.{is_variable};
 ghost use Rattle.cv_scope_rules.specs.typing.Parts.{IsTypedGame};

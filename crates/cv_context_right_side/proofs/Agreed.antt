@@ -11,7 +11,7 @@ use Rattle.cv_group_rules.specs.Rules.{all_agree, functions_agree, same_bound, t
 use Rattle.cv_scene.specs.Standing.{AreAsMany}
 use Rattle.cv_inline_names_laws.specs.accepted.RightBodies.{are_as_many}
 use Rattle.cv_inline_names_laws.proofs.covered.Functions.{some_is, none_is}
-use Rattle.cv_lists.proofs.Options.{slice_get_map}
+use Rattle.cv_syntax_trees.proofs.lists.Options.{slice_get_map}
 
 -- a function of the other side at a position, which takes as much
 pub record HasOther (functions : Tree) (k : ℕ) (f : Function) : Type 0 where

@@ -41,7 +41,7 @@ use Rattle.cv_context_right_side.specs.Right.{IsNamedFor}
 use Rattle.cv_context_right_side.proofs.Agreed.{HasOther, from_map, many, other}
 use Rattle.cv_context_right_side.proofs.Numbers.{IsGood, IsOfCall, calling_at, number_found, of_call, sites_related}
 use Rattle.cv_context_right_side.proofs.Whole.{all_texts}
-use Rattle.cv_lists.proofs.Options.{AllByRecursion_slice_get, slice_get_map}
+use Rattle.cv_syntax_trees.proofs.lists.Options.{AllByRecursion_slice_get, slice_get_map}
 use Rattle.cv_meaning_laws.proofs.adequacy.Sorted.{all_has}
 
 functions_alike : (s t : Tree) → groups_agree s t ≡ true → all_agree (second s) (second t) ≡ true

@@ -17,7 +17,7 @@ use Rattle.cv_inline.specs.bodies.Inlining.{Inlining}
 use Rattle.cv_inline.specs.bodies.Related.{AreSitesOf}
 use Rattle.cv_inline.specs.NextGame.{Calling, call_of, callers_of, calling, callings_from, names_assigned, numbered, replications_under}
 use Rattle.cv_inline_names_laws.proofs.covered.Functions.{has_either}
-use Rattle.cv_lists.specs.Options.{first_of}
+use Rattle.cv_syntax_trees.specs.lists.Options.{first_of}
 
 abbrev pub Found : Type 0
 Found = List (ℕ × ℕ) × Tree

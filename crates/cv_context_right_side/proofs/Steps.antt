@@ -14,9 +14,9 @@ use Rattle.cv_meaning.specs.Tapes.{blank}
 use Rattle.cv_meaning_laws.proofs.adequacy.Lists.{contains_has}
 use Rattle.cv_meaning_laws.proofs.Listed.{Has}
 use Rattle.cv_meaning.specs.contexts.ContextAdvantage.{context_advantage}
-use Rattle.cv_directory_sorts.specs.declared.sort.Sort.{Sort}
-use Rattle.cv_directory_sorts.specs.declared.sort.Sort.TheVariants.{OfType}
-use Rattle.cv_directory_sorts.specs.Sites.{Variable, first_site}
+use Rattle.cv_syntax_trees.specs.declared.sites.sort.Sort.{Sort}
+use Rattle.cv_syntax_trees.specs.declared.sites.sort.Sort.TheVariants.{OfType}
+use Rattle.cv_syntax_trees.specs.sites.Sites.{Variable, first_site}
 use Rattle.cv_meaning.specs.Queries.{queries_in}
 use Rattle.cv_scope_rules.proofs.Apart.{game_alike, game_branches}
 use Rattle.cv_scope_rules.specs.Phrases.{Inputs, IsWellFormedContext}

@@ -8,8 +8,8 @@ use Rattle.cv_syntax_trees.specs.declared.head.Head.TheVariants.{Repl}
 use Rattle.cv_syntax_trees.specs.Tree.{Tree, Empty, Node}
 use Rattle.cv_syntax_trees.specs.Declarations.{Declaration}
 use Rattle.cv_syntax.specs.faults.Walk.{IsObeyed}
-use Rattle.cv_directory_sorts.specs.declared.sort.Sort.{Sort}
-use Rattle.cv_directory_sorts.specs.Sites.{Variable, at_parameters, first_of, first_site, parameters_below, site_here}
+use Rattle.cv_syntax_trees.specs.declared.sites.sort.Sort.{Sort}
+use Rattle.cv_syntax_trees.specs.sites.Sites.{Variable, at_parameters, first_of, first_site, parameters_below, site_here}
 use Rattle.cv_scope_rules.specs.declared.fault.Fault.TheVariants as fault
 use Rattle.cv_scope_rules.specs.Context.{replications_below}
 use Rattle.cv_scope_rules.specs.Rules.{Names, Obeys}

@@ -5,7 +5,7 @@ use Rattle.std.specs.List.{flat_map}
 use Rattle.cv_syntax_trees.specs.declared.head.Head.TheVariants.{DistinctPart, EventsCertificate}
 use Rattle.cv_syntax_trees.specs.Declarations.{Declaration}
 use Rattle.cv_syntax_trees.specs.Tree.{Tree, Empty, Node}
-use Rattle.cv_directory_sorts.specs.Sites.{Variable, first_site}
+use Rattle.cv_syntax_trees.specs.sites.Sites.{Variable, first_site}
 use Rattle.cv_bound.specs.declared.cost.Collision.{Collision}
 use Rattle.cv_scene.specs.Scenes.{Scene}
 use Rattle.cv_steps.specs.Steps.{Collisions, Cost, Zero}

@@ -1,6 +1,6 @@
 -- The parameters of a variable's copies: those of the replications above its first definition. This profile's own.
 use Rattle.std.specs.Prelude.{ℕ, List, [], Option, Some, None}
-use Rattle.cv_directory_sorts.specs.Sites.{Variable, first_site}
+use Rattle.cv_syntax_trees.specs.sites.Sites.{Variable, first_site}
 use Rattle.cv_syntax_trees.specs.Tree.{Tree}
 
 -- none where there is no variable

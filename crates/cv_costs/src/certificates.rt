@@ -4,7 +4,7 @@ ghost use Rattle.cv_pool.specs.Nodes.{ChildBelow};
 ghost use Rattle.cv_syntax.specs.Declarations.{declarations};
 ghost use Rattle.cv_syntax.specs.PoolTrees.{tree_at};
 ghost use Rattle.cv_syntax.specs.limits.Limits.{nodes_of};
-ghost use Rattle.cv_directory_sorts.specs.Sites.{first_site, sites_of};
+ghost use Rattle.cv_syntax_trees.specs.sites.Sites.{first_site, sites_of};
 ghost use Rattle.cv_typing.specs.Tables.{arrays_of};
 ghost use Rattle.cv_scope_rules.specs.typing.Signature.{OfGame};
 ghost use Rattle.cv_scope_rules.specs.Phrases.{IsWellFormed};

@@ -4,7 +4,7 @@ ghost use Rattle.cv_scope_rules.specs.typing.Signature.{variable_in};
 ghost use Rattle.cv_costs.specs.Collisions as collisions;
 ghost use Rattle.cv_costs.specs.Copies.{parameters_by};
 
-use cv_directory_sorts::Sort;
+use cv_syntax_trees::sites::Sort;
 use cv_typing::Arrays;
 use std::alloc::{AllocError, Global};
 

@@ -4,7 +4,7 @@ use Rattle.std.specs.Prelude.{◌==◌, if◌then◌else◌, option_and_then}
 use Rattle.std.specs.List.{AllByRecursion}
 use Rattle.std.proofs.lemmas.Bool.{both_ways}
 use Rattle.std.proofs.lemmas.List.{get_or_past}
-use Rattle.cv_lists.proofs.Each.{AllByRecursion_append}
+use Rattle.cv_syntax_trees.proofs.lists.Each.{AllByRecursion_append}
 use Rattle.cv_pool.specs.declared.node.NodeId.{NodeId}
 use Rattle.cv_pool.specs.KindTree.{KindTree, NoTree}
 use Rattle.cv_syntax_trees.specs.declared.head.Head.{Head}
@@ -12,8 +12,8 @@ use Rattle.cv_syntax_trees.specs.declared.head.Head.TheVariants.{New, Let, In, B
 use Rattle.cv_syntax_trees.specs.Head.{weight}
 use Rattle.cv_syntax_trees.specs.Tree.{Tree, Empty, Node, second, size, subtree, first_place, second_place}
 use Rattle.cv_syntax.specs.PoolTrees.{tree_at, tree_of}
-use Rattle.cv_directory_sorts.specs.declared.sort.Sort.{Sort}
-use Rattle.cv_directory_sorts.specs.declared.sort.Sort.TheVariants.{OfType, BelowParameter}
+use Rattle.cv_syntax_trees.specs.declared.sites.sort.Sort.{Sort}
+use Rattle.cv_syntax_trees.specs.declared.sites.sort.Sort.TheVariants.{OfType, BelowParameter}
 use Rattle.cv_directory.specs.Definitions.{Definition, bound_definitions, definition_at, definitions_at, definitions_from, definitions_of, first_in, replications_below}
 use Rattle.cv_path.proofs.Going.{subtree_here}
 use Rattle.cv_derive_facts.specs.Definitions.{behind_at, body_place, can_define, place_behind, process_place}

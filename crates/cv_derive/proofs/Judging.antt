@@ -8,7 +8,7 @@ use Rattle.cv_pool.specs.KindTree.{KindTree}
 use Rattle.cv_syntax.specs.declared.open.Opened.{Opened}
 use Rattle.cv_syntax_trees.specs.Tree.{Tree, Empty, Node}
 use Rattle.cv_syntax.specs.PoolTrees.{tree_at}
-use Rattle.cv_directory_sorts.specs.Sites.{first_of}
+use Rattle.cv_syntax_trees.specs.sites.Sites.{first_of}
 use Rattle.cv_scene.specs.Derivations.{Derives, first_bad_line, is_right_split, unless}
 use Rattle.cv_scene.specs.Reasons.{is_right}
 use Rattle.cv_scene.specs.Sights.{Sight}

@@ -20,7 +20,7 @@ use Rattle.cv_derive.specs.Sites.{IsSite, site_in}
 use Rattle.cv_derive.specs.declared.sites.Site.{Site}
 use Rattle.cv_derive.proofs.Defining.{Behind, behind_definition, definition_placed}
 use Rattle.cv_derive.proofs.Replications.{few_replications}
-use Rattle.cv_lists.proofs.Options.{some_pair_first, some_pair_second}
+use Rattle.cv_syntax_trees.proofs.lists.Options.{some_pair_first, some_pair_second}
 
 -- what the first definition is where it is the only one
 pub record Only (game : Tree) (site : Option Context) (entry : Option Definition) : Type 0 where

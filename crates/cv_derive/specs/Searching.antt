@@ -2,7 +2,7 @@
 use Rattle.std.specs.Prelude.{ℕ, ◌+◌, Option, None}
 use Rattle.cv_syntax_trees.specs.declared.head.Head.TheVariants.{Not}
 use Rattle.cv_syntax_trees.specs.Tree.{Tree, Empty, Node}
-use Rattle.cv_directory_sorts.specs.Sites.{first_of}
+use Rattle.cv_syntax_trees.specs.sites.Sites.{first_of}
 use Rattle.cv_scene.specs.Derivations.{is_right_split, unless}
 use Rattle.cv_scene.specs.lines.Lines.{Lines, End, By, Cases, count}
 use Rattle.cv_scene.specs.Reasons.{is_right}

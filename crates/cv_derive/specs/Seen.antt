@@ -7,7 +7,7 @@ use Rattle.cv_syntax.specs.Declarations.{declarations}
 use Rattle.cv_syntax_trees.specs.Tree.{Tree, Empty, Node, size}
 use Rattle.cv_syntax.specs.PoolTrees.{tree_at}
 use Rattle.cv_directory.specs.Definitions.{entries_of, large_in}
-use Rattle.cv_directory_sorts.specs.Sites.{sites_of}
+use Rattle.cv_syntax_trees.specs.sites.Sites.{sites_of}
 use Rattle.cv_directory.specs.Tables.{entries_in}
 use Rattle.cv_directory.specs.Live.{IsLive}
 use Rattle.cv_scope_rules.specs.typing.Signature.{OfGame}

@@ -4,7 +4,7 @@ ghost use Rattle.cv_syntax.specs.Declarations.{declarations};
 ghost use Rattle.cv_syntax_trees.specs.Tree.{size};
 ghost use Rattle.cv_syntax.specs.PoolTrees.{tree_at};
 ghost use Rattle.cv_directory.specs.Definitions.{entries_of, large_in};
-ghost use Rattle.cv_directory_sorts.specs.Sites.{sites_of};
+ghost use Rattle.cv_syntax_trees.specs.sites.Sites.{sites_of};
 ghost use Rattle.cv_directory.specs.Tables.{entries_in};
 ghost use Rattle.cv_directory.specs.Live.{IsLive};
 ghost use Rattle.cv_scope_rules.specs.typing.Signature.{OfGame};
@@ -32,8 +32,8 @@ use cv_derive_lines::citing::{Bookmarks, Citing};
 use cv_derive_lines::terms::is_condition;
 use cv_derive_lines::{Claim, Line, count, ends_in, ends_with, line_of};
 use cv_derive_reasons::sizes::Sizes;
-use cv_directory_sorts::Sort;
 use cv_syntax::{Game, NodeId, Work, read_node};
+use cv_syntax_trees::sites::Sort;
 use cv_typing::Arrays;
 use std::collections::HashMap;
 

@@ -1,6 +1,6 @@
 use cv_derive_reasons::sizes::Sizes;
-use cv_directory_sorts::Sort;
 use cv_syntax::{Game, NodeId, Work};
+use cv_syntax_trees::sites::Sort;
 use cv_typing::Arrays;
 use std::collections::HashMap;
 

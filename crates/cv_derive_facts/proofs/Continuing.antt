@@ -23,8 +23,8 @@ use Rattle.cv_scope_rules.specs.Behind.{behind_site, in_list, sites_in, sites_of
 use Rattle.cv_scope_rules.specs.Above.{first_standing, second_standing, stands_at}
 use Rattle.cv_derive_facts.proofs.Flat.{Some_injective, arm_parts, continued_parts, continues}
 use Rattle.cv_derive_facts.proofs.Placing.{StandsAs, body_stands, first_stands, game_stands, guards_places, here_tree, second_stands}
-use Rattle.cv_lists.proofs.Each.{AllByRecursion_append}
-use Rattle.cv_lists.proofs.Options.{none_some}
+use Rattle.cv_syntax_trees.proofs.lists.Each.{AllByRecursion_append}
+use Rattle.cv_syntax_trees.proofs.lists.Options.{none_some}
 
 module _ (game : Tree) where
   -- what follows is the process

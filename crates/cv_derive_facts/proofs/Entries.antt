@@ -9,8 +9,8 @@ use Rattle.cv_syntax_trees.specs.declared.head.Head.{Head}
 use Rattle.cv_syntax_trees.specs.declared.head.Head.TheVariants.{Repl, In, New, Let, Branch, Binder, Cons, Key, Call}
 use Rattle.cv_syntax_trees.specs.Declarations.{Declaration}
 use Rattle.cv_syntax_trees.specs.Tree.{Tree, Empty, Node, second, first_place, second_place}
-use Rattle.cv_directory_sorts.specs.declared.sort.Sort.{Sort}
-use Rattle.cv_directory_sorts.specs.declared.sort.Sort.TheVariants.{OfType, BelowParameter}
+use Rattle.cv_syntax_trees.specs.declared.sites.sort.Sort.{Sort}
+use Rattle.cv_syntax_trees.specs.declared.sites.sort.Sort.TheVariants.{OfType, BelowParameter}
 use Rattle.cv_directory.specs.Definitions as directory
 use Rattle.cv_directory.specs.Definitions.{Definition, bound_definitions, definitions_at, definitions_from, definitions_of}
 use Rattle.cv_scope_rules.specs.declared.fault.Fault.TheVariants as fault
@@ -34,7 +34,7 @@ use Rattle.cv_scope_rules.specs.Behind.{behind_site, in_condition, sites_in, sit
 use Rattle.cv_scope_rules.specs.Above.{first_standing, second_standing}
 use Rattle.cv_derive_facts.proofs.Flat.{Some_injective}
 use Rattle.cv_derive_facts.proofs.Standings.{first_replications, second_replications}
-use Rattle.cv_lists.proofs.Options.{none_some}
+use Rattle.cv_syntax_trees.proofs.lists.Options.{none_some}
 
 -- a definition of the directory, and a site, at a place below replications
 module _ (p x : ℕ) (rs : List (ℕ × ℕ)) where

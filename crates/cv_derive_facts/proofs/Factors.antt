@@ -8,7 +8,7 @@ use Rattle.cv_syntax_trees.specs.declared.head.Head.{Head}
 use Rattle.cv_syntax_trees.specs.declared.head.Head.TheVariants.{Repl, Branch, Cons, Binder}
 use Rattle.cv_syntax_trees.specs.Declarations.{Declaration}
 use Rattle.cv_syntax_trees.specs.Tree.{Tree, Empty, Node, size}
-use Rattle.cv_directory_sorts.specs.Counting.{count}
+use Rattle.cv_syntax_trees.specs.sites.Counting.{count}
 use Rattle.cv_scope_rules.specs.declared.fault.Fault.TheVariants as fault
 use Rattle.cv_scope_rules.specs.Context.{replications_below}
 use Rattle.cv_scope_rules.specs.Rules.{Names, IsFewIndices, Obeys}
@@ -25,7 +25,7 @@ use Rattle.cv_path.specs.Copies.{added, copies_at, few_copies_at, guards, if_few
 use Rattle.cv_path.proofs.Bounds.{lies_somewhere}
 use Rattle.cv_derive_facts.proofs.Flat.{Some_injective, arm_parts, flat_parts}
 use Rattle.cv_path.proofs.Products.{copies_empty, copies_here, copies_within, copies_behind}
-use Rattle.cv_lists.proofs.Options.{none_some}
+use Rattle.cv_syntax_trees.proofs.lists.Options.{none_some}
 
 mapped : (f : List ℕ → List ℕ) (o : Option (List ℕ)) (ns : List ℕ) → option_map f o ≡ Some ns → (ms : List ℕ) × (o ≡ Some ms) × (ns ≡ f ms)
 mapped f None ns e = absurd (none_some ns e)

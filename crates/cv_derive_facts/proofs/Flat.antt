@@ -10,7 +10,7 @@ use Rattle.cv_scope_runs.proofs.Rows.{Row, stop, par, repl, input, yield, output
 use Rattle.cv_path.specs.Copies.{added}
 use Rattle.cv_derive_facts.specs.Definitions.{can_define}
 use Rattle.cv_scope_rules.specs.Above.{first_standing, second_standing}
-use Rattle.cv_lists.proofs.Options.{none_some}
+use Rattle.cv_syntax_trees.proofs.lists.Options.{none_some}
 
 pub Some_injective : {A : Type 0} (a b : A) → ◌≡◌ {A = Option A} (Some a) (Some b) → a ≡ b
 Some_injective a b e = cc

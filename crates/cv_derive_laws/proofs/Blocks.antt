@@ -12,7 +12,7 @@ use Rattle.cv_meaning.specs.Satisfies.{Satisfies}
 use Rattle.cv_meaning.specs.Terms.{bit, is_one, value}
 use Rattle.cv_meaning_laws.specs.adequacy.Typed.{HasSort}
 use Rattle.cv_scope_rules.specs.Phrases.{IsWellFormed}
-use Rattle.cv_directory_sorts.specs.Sites.{first_of}
+use Rattle.cv_syntax_trees.specs.sites.Sites.{first_of}
 use Rattle.cv_syntax.proofs.faults.First.{none_first}
 use Rattle.cv_scope_rules.specs.typing.Signature as typing
 use Rattle.cv_scope_rules.specs.typing.Signature.{sort_of}

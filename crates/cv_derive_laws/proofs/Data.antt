@@ -20,7 +20,7 @@ use Rattle.cv_meaning_laws.specs.adequacy.Typed.{HasSort, Scope, boolean}
 use Rattle.cv_scope_rules.specs.Context.{items}
 use Rattle.cv_scope_rules.specs.Phrases.{IsWellFormed, Nil, Term, Terms, is_phrase}
 use Rattle.cv_scope_rules.specs.typing.Signature.{Above, Function, Signature, declaration_of, function_by, function_in, is_arity, names_in}
-use Rattle.cv_directory_sorts.specs.Counting.{count}
+use Rattle.cv_syntax_trees.specs.sites.Counting.{count}
 use Rattle.cv_scope_rules.specs.typing.Typing.{IsTyped}
 use Rattle.cv_scope_rules.specs.typing.Wants.{AnyTerm, Message, Messages, Want, wants, wants_arguments}
 use Rattle.cv_typing_runs.specs.Games.{HasArguments, sort_of_meaning}

@@ -20,10 +20,10 @@ use Rattle.cv_meaning_laws.specs.adequacy.Typed as meaning
 use Rattle.cv_meaning_laws.specs.adequacy.Typed.{HasSort, Scope, boolean}
 use Rattle.cv_scope_rules.specs.Context.{items}
 use Rattle.cv_scope_rules.specs.Phrases.{IsWellFormed, OneCell, Term, is_phrase}
-use Rattle.cv_directory_sorts.specs.declared.sort.Sort.{Sort}
-use Rattle.cv_directory_sorts.specs.declared.sort.Sort.TheVariants.{BelowParameter, OfType}
+use Rattle.cv_syntax_trees.specs.declared.sites.sort.Sort.{Sort}
+use Rattle.cv_syntax_trees.specs.declared.sites.sort.Sort.TheVariants.{BelowParameter, OfType}
 use Rattle.cv_scope_rules.specs.typing.Signature.{sort_of}
-use Rattle.cv_directory_sorts.specs.Sorts.{same_sort}
+use Rattle.cv_syntax_trees.specs.sites.Sorts.{same_sort}
 use Rattle.cv_scope_runs.specs.Promises.{AreIndicesOf}
 use Rattle.cv_typing_runs.specs.Games.{HasArguments, context_of, sort_of_meaning}
 use Rattle.cv_typing_runs.proofs.Terms.{same_sorts}
@@ -39,7 +39,7 @@ use Rattle.cv_scene.specs.lines.Truths.{is_truth, no}
 use Rattle.cv_derive_laws.specs.stores.Truth.{AreAssigned, AreTrue, HasClosedEquations, IfBeside, IfEquation, IsClosedEquation, IsMetBeside, IsReached, IsTrue, WasReached, is_name_of}
 use Rattle.cv_derive_laws.proofs.Substitution.{names_of, put_value}
 use Rattle.cv_derive_laws.proofs.Truths.{IsBit, below_two, bit_true, equal_true, nought_one, true_equal, truth_holds}
-use Rattle.cv_lists.proofs.Tests.{or_cases}
+use Rattle.cv_syntax_trees.proofs.lists.Tests.{or_cases}
 
 -- lists
 

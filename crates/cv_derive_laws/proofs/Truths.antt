@@ -9,7 +9,7 @@ use Rattle.cv_meaning.specs.Memory.{Indices, Store}
 use Rattle.cv_meaning.specs.Terms.{bit, is_one, value}
 use Rattle.cv_meaning_laws.specs.adequacy.Typed.{Context, HasSort, Scope, Sort, boolean}
 use Rattle.cv_scene.specs.lines.Truths.{yes, no, are_sides, is_double, is_truth, is_truth_of_and, is_truth_of_equality, is_truth_of_equation, is_truth_of_not, is_truth_of_or, is_truth_of_sides}
-use Rattle.cv_lists.proofs.Tests.{equals_comm, or_cases}
+use Rattle.cv_syntax_trees.proofs.lists.Tests.{equals_comm, or_cases}
 
 -- bits
 

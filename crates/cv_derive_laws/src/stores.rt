@@ -13,7 +13,7 @@ ghost use Rattle.cv_meaning.specs.Satisfies.{Satisfies};
 ghost use Rattle.cv_meaning_laws.specs.adequacy.Counted.{tapes_of};
 ghost use Rattle.cv_meaning_laws.specs.adequacy.Typed.{HasSort};
 ghost use Rattle.cv_scope_rules.specs.Phrases.{HasConstantsOf, IsWellFormed, IsWellFormedContext};
-ghost use Rattle.cv_directory_sorts.specs.declared.sort.Sort.{Sort};
+ghost use Rattle.cv_syntax_trees.specs.declared.sites.sort.Sort.{Sort};
 ghost use Rattle.cv_scope_rules.specs.typing.Parts.{IsTypedGame};
 ghost use Rattle.cv_scope_rules.specs.typing.Signature.{sort_of};
 ghost use Rattle.cv_typing_runs.specs.Games.{HasArguments, HasDeclaredSorts, HasKnownNames, context_of, sort_of_meaning};

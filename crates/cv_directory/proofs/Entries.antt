@@ -7,10 +7,10 @@ use Rattle.cv_syntax_trees.specs.declared.head.Head.{Head}
 use Rattle.cv_syntax_trees.specs.declared.head.Head.TheVariants.{Binder, Branch, In, Let, New, Repl}
 use Rattle.cv_syntax_trees.specs.Head.{weight}
 use Rattle.cv_syntax_trees.specs.Tree.{Tree, Empty, Node, second, size}
-use Rattle.cv_directory_sorts.specs.declared.sort.Sort.{Sort}
-use Rattle.cv_directory_sorts.specs.declared.sort.Sort.TheVariants.{OfType, BelowParameter}
+use Rattle.cv_syntax_trees.specs.declared.sites.sort.Sort.{Sort}
+use Rattle.cv_syntax_trees.specs.declared.sites.sort.Sort.TheVariants.{OfType, BelowParameter}
 use Rattle.cv_directory.specs.Definitions.{Definition, Entries, bound_definitions, definition_at, definitions_at, definitions_from, entries_of, first_in, first_other, is_other, most, replications_below, variable_by}
-use Rattle.cv_directory_sorts.specs.Sites.{at_parameters, bound_sort, first_index, first_of, first_site, index_here, parameters_below, site_here}
+use Rattle.cv_syntax_trees.specs.sites.Sites.{at_parameters, bound_sort, first_index, first_of, first_site, index_here, parameters_below, site_here}
 use Rattle.cv_directory.specs.Tables.{counted, grown, no_entries, no_index, noted, only, with_entries}
 
 pub same_entries : (d e : Entries) → ((x : ℕ) → d.first x ≡ e.first x) → ((x : ℕ) → d.count x ≡ e.count x) → ((x : ℕ) → d.other x ≡ e.other x) → ((i : ℕ) → d.index i ≡ e.index i) → d ≡ e

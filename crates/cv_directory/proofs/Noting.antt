@@ -9,13 +9,13 @@ use Rattle.cv_directory.specs.declared.directory.Directory.{Directory}
 use Rattle.cv_directory.specs.declared.site.Entry.{Entry}
 use Rattle.cv_directory.specs.declared.site.Site.{Site}
 use Rattle.cv_directory.specs.Definitions.{Definition, Entries, entries_of, most, variable_by}
-use Rattle.cv_directory_sorts.specs.Sites.{first_index, first_of, first_site, is_untyped_here, is_untyped_in, sites_of}
+use Rattle.cv_syntax_trees.specs.sites.Sites.{first_index, first_of, first_site, is_untyped_here, is_untyped_in, sites_of}
 use Rattle.cv_directory.specs.Tables.{counted, counts, definition_of, entries_in, entry_at, firsts, indices, no_entries, noted, nothing, others, seen, seen_site, untyped_of}
 use Rattle.cv_directory.proofs.Entries.{first_nothing, first_site_law}
 use Rattle.cv_syntax_trees.specs.declared.head.Head.{Head}
 use Rattle.cv_syntax_trees.specs.declared.head.Head.TheVariants.{Key, Call}
 use Rattle.cv_syntax_trees.specs.Tree.{Tree, Empty, Node}
-use Rattle.cv_lists.proofs.Tests.{or_assoc, or_false_back}
+use Rattle.cv_syntax_trees.proofs.lists.Tests.{or_assoc, or_false_back}
 
 -- an entry for a name further on
 pub entry_added : (es : List Entry) (y : ℕ) → entry_at (es ++ nothing ∷ []) y ≡ entry_at es y

@@ -9,9 +9,9 @@ use Rattle.cv_syntax.specs.PoolTrees.{tree_at}
 use Rattle.cv_directory.specs.declared.directory.Directory.{Directory}
 use Rattle.cv_directory.specs.declared.site.Entry.{Entry}
 use Rattle.cv_directory.specs.declared.site.Site.{Site}
-use Rattle.cv_directory_sorts.specs.declared.sort.Sort.{Sort}
+use Rattle.cv_syntax_trees.specs.declared.sites.sort.Sort.{Sort}
 use Rattle.cv_directory.specs.Definitions.{Definition, Entries, definition_at, first_in, first_other, most}
-use Rattle.cv_directory_sorts.specs.Sites.{SitesView, Variable, first_of}
+use Rattle.cv_syntax_trees.specs.sites.Sites.{SitesView, Variable, first_of}
 
 abbrev pub Map : Type 0 → Type 0
 Map X = HashMap ℕ X (BuildHasherDefault FoldHasher)

@@ -5,15 +5,15 @@ ghost use Rattle.cv_pool.specs.Nodes.{ChildBelow};
 ghost use Rattle.cv_syntax_trees.specs.Tree.{Node, size};
 ghost use Rattle.cv_syntax.specs.PoolTrees.{tree_at};
 ghost use Rattle.cv_directory.specs.Definitions.{Definition, bound_definitions, definitions_at, definitions_from, entries_of, is_other, large_in};
-ghost use Rattle.cv_directory_sorts.specs.Sites.{Variable, binder_sort, index_here, first_index, is_untyped_here, is_untyped_in, sites_of};
+ghost use Rattle.cv_syntax_trees.specs.sites.Sites.{Variable, binder_sort, index_here, first_index, is_untyped_here, is_untyped_in, sites_of};
 ghost use Rattle.cv_directory.specs.Tables.{definition_in, entries_in, entry_at, no_index, noted, only, seen, untyped_of, with_entries};
 
 use crate::nodes::{is_other_node, sort_of_binder};
 use crate::site::{Entry, Site};
 use crate::tables::{note_definition, note_parameter, reach};
-use cv_directory_sorts::Sort;
 use cv_syntax::children::second_of;
 use cv_syntax::{Decls, Head, NodeId, Opened, Pool, read_node};
+use cv_syntax_trees::sites::Sort;
 use std::alloc::{AllocError, Global};
 use std::collections::HashMap;
 

@@ -1,7 +1,7 @@
 ghost use Rattle.std.specs.Prelude.{◌≡◌, ℕ, List, map, option_map};
 ghost use Rattle.cv_syntax_trees.specs.Tree.{Tree};
 ghost use Rattle.cv_directory.specs.Definitions.{definitions_from, first_in, variable_by};
-ghost use Rattle.cv_directory_sorts.specs.Sites.{first_site};
+ghost use Rattle.cv_syntax_trees.specs.sites.Sites.{first_site};
 ghost use Rattle.cv_directory.specs.Worked.{answers, asked};
 
 /// The first definition of a variable is its first site.

@@ -1,10 +1,10 @@
 ghost use Rattle.std.specs.Prelude.{◌≡◌};
 ghost use Rattle.cv_syntax_trees.specs.Tree.{Node, Tree};
 ghost use Rattle.cv_directory.specs.Definitions.{is_other, large_in};
-ghost use Rattle.cv_directory_sorts.specs.Sites.{binder_sort};
+ghost use Rattle.cv_syntax_trees.specs.sites.Sites.{binder_sort};
 
-use cv_directory_sorts::Sort;
 use cv_syntax::{Class, Decls, Head, NameId};
+use cv_syntax_trees::sites::Sort;
 
 /// The sort that a binder gives: that of an index, or of a value of a type.
 pub fn sort_of_binder(is_index: bool, name: u32) -> Sort

@@ -1,5 +1,5 @@
-use cv_directory_sorts::Sort;
 use cv_syntax::NodeId;
+use cv_syntax_trees::sites::Sort;
 
 /// The first definition of a variable.
 #[derive(Drop)]

@@ -1,12 +1,12 @@
 ghost use Rattle.std.specs.Prelude.{◌≡◌, ◌+◌, ◌<◌, min, if◌then◌else◌, ℕ, List, Some, length, option_map, OnOk};
 ghost use Rattle.cv_pool.specs.KindTree.{KindTree};
 ghost use Rattle.cv_directory.specs.Definitions.{most};
-ghost use Rattle.cv_directory_sorts.specs.Sites.{first_of};
+ghost use Rattle.cv_syntax_trees.specs.sites.Sites.{first_of};
 ghost use Rattle.cv_directory.specs.Tables.{definition_in, definition_of, entry_at, nothing};
 
 use crate::site::{Entry, Site};
-use cv_directory_sorts::Sort;
 use cv_syntax::NodeId;
+use cv_syntax_trees::sites::Sort;
 use std::alloc::{AllocError, Global};
 
 /// Nothing of a name.

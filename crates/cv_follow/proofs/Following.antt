@@ -70,7 +70,7 @@ use Rattle.cv_follow.proofs.Closings.{closings_put, numbers_same, sum_put, sums_
 use Rattle.cv_follow.proofs.StepKinds.{IsJudged, Kind, kind_of}
 use Rattle.cv_follow.proofs.StepKinds as kind
 use Rattle.cv_follow.proofs.Walked.{last_is, nodes_append}
-use Rattle.cv_lists.proofs.Options.{some_injective}
+use Rattle.cv_syntax_trees.proofs.lists.Options.{some_injective}
 
 -- entries stay while the pool grows
 entry_same : (old new : PoolView) (e : Entry) → Grows old new → EntryLive (length old.trees) e → entry_in new.trees e ≡ entry_in old.trees e

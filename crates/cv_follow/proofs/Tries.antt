@@ -18,7 +18,7 @@ use Rattle.cv_kernel.specs.declared.sequence.Sequence.{Sequence}
 use Rattle.cv_kernel_crypto.specs.Applied.{DrawsNext, HasEquivalences}
 use Rattle.cv_meaning.specs.Queries.{queries_in}
 use Rattle.cv_parse.specs.Declaring.{IsBelow}
-use Rattle.cv_pool.proofs.Growth.{Grows_length, Grows_refl, Grows_trans}
+use Rattle.cv_pool.proofs.Growth.{Grows_length, Grows_refl, Grows_trans, Grows_same}
 use Rattle.cv_pool.specs.KindTree.{KindTree}
 use Rattle.cv_pool.specs.PoolView.{PoolView, Grows}
 use Rattle.cv_report.specs.declared.report.Entry.{Entry}
@@ -42,7 +42,7 @@ use Rattle.cv_syntax.specs.PoolTrees.{tree_at}
 use Rattle.cv_syntax_trees.specs.Declarations.{Declaration}
 use Rattle.cv_syntax_trees.specs.Tree.{Node, Tree, size}
 use Rattle.cv_syntax_trees.specs.declared.head.Head.TheVariants.{ArrayRenameStep, CryptoStep, UnletStep}
-use Rattle.cv_lists.proofs.Options.{some_injective}
+use Rattle.cv_syntax_trees.proofs.lists.Options.{some_injective}
 use Rattle.cv_follow.specs.declared.searching.Ending.{Ending}
 use Rattle.cv_follow.specs.declared.searching.Ending.TheVariants.{Exhausted, Stopped}
 use Rattle.cv_follow.specs.declared.searching.Tried.{Tried}
@@ -53,7 +53,6 @@ use Rattle.cv_follow.specs.Searches.{AreMoves, Comes, ComesTo, EndedBy, EndsSear
 use Rattle.cv_follow.specs.Walks.{HasFollowed, IsNoted, stop_of}
 use Rattle.cv_follow.proofs.Closings.{numbers_same, verdicts_length}
 use Rattle.cv_follow.proofs.Drawing.{drawn_more}
-use Rattle.cv_follow.proofs.Growing.{Grows_same}
 use Rattle.cv_follow.proofs.Following.{asked_by, entries_more, entries_same, equivalences_kept, followed_more, followed_none, on_none, stops_at, verdicts}
 use Rattle.cv_follow.proofs.NamesKept.{names_kept}
 use Rattle.cv_follow.proofs.QueryLists.{queries_same}

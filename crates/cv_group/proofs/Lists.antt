@@ -23,7 +23,7 @@ use Rattle.cv_group.specs.declared.fault.GroupFault.{GroupFault}
 use Rattle.cv_group.specs.declared.fault.GroupFault.TheVariants.{LeftNotTerm, TwoIndices, ShapeDiffers, FreeName, Unread, OutOfMemory}
 use Rattle.cv_group_rules.specs.Symbols.{Symbols, is_function_of}
 use Rattle.cv_group_rules.specs.Faults.{GroupRule, LeftIsTerm, OneIndex, SameShape, BoundNames, ReadNames, equivalences_in, first_group_fault, group_fault, later, refused_or}
-use Rattle.cv_lists.proofs.Numbers.{suc_is_plus_one}
+use Rattle.cv_syntax_trees.proofs.lists.Numbers.{suc_is_plus_one}
 
 abbrev pub is_number : Option ℕ → ℕ → Bool
 is_number None x = false

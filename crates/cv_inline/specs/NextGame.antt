@@ -8,7 +8,7 @@ use Rattle.cv_meaning.specs.contexts.Groups.{Right, Function, Group, side_group,
 use Rattle.cv_meaning.specs.contexts.Sites.{is_call}
 use Rattle.cv_meaning.specs.contexts.Sides.{Context}
 use Rattle.cv_meaning.specs.contexts.Inlined.{Drawn, Caller, TheKey, inlined_call}
-use Rattle.cv_lists.specs.Options.{first_of}
+use Rattle.cv_syntax_trees.specs.lists.Options.{first_of}
 
 -- the callers of a context
 

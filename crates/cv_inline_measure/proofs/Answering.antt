@@ -11,7 +11,7 @@ use Rattle.cv_inline_measure.specs.declared.measuring.Measure.{Measure}
 use Rattle.cv_inline_measure.specs.Counts.{measure_in}
 use Rattle.cv_syntax.specs.limits.Limits.{told}
 use Rattle.cv_inline_measure.specs.Games.{answers_in, with_call}
-use Rattle.cv_lists.proofs.Tests.{differs}
+use Rattle.cv_syntax_trees.proofs.lists.Tests.{differs}
 
 pub first_answer : (m : Measure) (c x z : ℕ) (a : Added) (more : List Answer) → z ≡ told ((measure_in m).along a.results c) → more ≡ record { name = x; results = z } ∷ [] → answers_in more ≡ with_call m c (answers_in []) x a
 first_answer m c x z a more e f = ap answers_in f ∙ ap (λ n. (x, n) ∷ []) e

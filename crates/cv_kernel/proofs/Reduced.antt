@@ -2,7 +2,7 @@
 use Rattle.std.proofs.Common.{◌≡◌, ℕ, suc, ◌+◌, ◌≤◌, List, [], ◌∷◌, ◌++◌, length, Some, Result, Ok, Err, option_map, refl, sym, ap, subst, ◌∙◌}
 use Rattle.std.proofs.lemmas.Bool.{and_parts}
 use Rattle.std.specs.Prelude.{All, IsErrAnd}
-use Rattle.cv_lists.proofs.Each.{AllByRecursion_push}
+use Rattle.cv_syntax_trees.proofs.lists.Each.{AllByRecursion_push}
 use Rattle.cv_pool.specs.KindTree.{KindTree}
 use Rattle.cv_pool.specs.PoolView.{PoolView, Grows}
 use Rattle.cv_directory.specs.Live.{IsLive}

@@ -2,7 +2,7 @@
 use Rattle.std.proofs.Common.{◌≡◌, ℕ, ◌||◌, ◌&&◌, not, Bool, true, false, List, ◌∷◌, refl, sym, ap, ◌∙◌}
 use Rattle.std.specs.List.{list_any}
 use Rattle.cv_syntax_trees.specs.Tree.{Tree}
-use Rattle.cv_directory_sorts.specs.Sites.{SitesView, sites_of}
+use Rattle.cv_syntax_trees.specs.sites.Sites.{SitesView, sites_of}
 use Rattle.cv_query_form.specs.Held.{valued}
 use Rattle.cv_query_form.specs.Tests.{has_values}
 use Rattle.cv_syntax.specs.declared.work.BuildError.TheVariants as build

@@ -5,7 +5,7 @@ use Rattle.cv_pool.specs.declared.node.NodeId.{NodeId}
 use Rattle.cv_syntax_trees.specs.Tree.{Tree}
 use Rattle.cv_syntax.specs.PoolTrees.{tree_at}
 use Rattle.cv_directory.specs.declared.directory.Directory.{Directory}
-use Rattle.cv_directory_sorts.specs.Sites.{SitesView, sites_of}
+use Rattle.cv_syntax_trees.specs.sites.Sites.{SitesView, sites_of}
 use Rattle.cv_directory.specs.Tables.{seen}
 use Rattle.cv_typing.specs.declared.arrays.Arrays.{Arrays}
 use Rattle.cv_typing.specs.declared.arrays.Arrays.TheVariants as held

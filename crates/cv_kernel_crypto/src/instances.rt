@@ -2,7 +2,7 @@ ghost use Rattle.std.specs.Prelude.{◌≡◌, ◌<◌, ◌^◌, All, IfErr, IfO
 ghost use Rattle.cv_syntax_trees.specs.Tree.{size};
 ghost use Rattle.cv_syntax.specs.PoolTrees.{tree_at};
 ghost use Rattle.cv_directory.specs.Live.{IsLive};
-ghost use Rattle.cv_directory_sorts.specs.Sites.{sites_of};
+ghost use Rattle.cv_syntax_trees.specs.sites.Sites.{sites_of};
 ghost use Rattle.cv_scope_rules.specs.typing.Signature.{OfGame};
 ghost use Rattle.cv_typing.specs.Tables.{arrays_of};
 ghost use Rattle.cv_scene_view.specs.Kept.{scene_of};

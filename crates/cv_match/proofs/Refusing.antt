@@ -1,7 +1,7 @@
 -- The first refusal is the first of those that the key and the sites give.
 use Rattle.std.proofs.Common.{◌≡◌, ℕ, Bool, true, false, List, Option, Some, None, Result, Ok, Err, refl, ap, ap₂, subst, sym, ◌∙◌}
 use Rattle.std.specs.Prelude.{IfErr, IsErrAnd, if◌then◌else◌}
-use Rattle.cv_directory_sorts.specs.Sites.{first_of}
+use Rattle.cv_syntax_trees.specs.sites.Sites.{first_of}
 use Rattle.cv_scope_rules.specs.declared.position.Position.TheVariants.{Anywhere}
 use Rattle.cv_scene.specs.Instances.{Matching}
 use Rattle.cv_scene.specs.Refusals.{Refusal, CoinUse, InCondition, KeyInArgument, NotOneSite, Use, at_place, first_argument_use, first_coin_use, first_in_condition, first_refusal, first_use, has_key}

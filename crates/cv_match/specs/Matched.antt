@@ -5,7 +5,7 @@ use Rattle.cv_pool.specs.PoolView.{PoolView}
 use Rattle.cv_syntax.specs.Classes.{DeclsView, equiv_in}
 use Rattle.cv_syntax.specs.PoolTrees.{tree_at}
 use Rattle.cv_meaning.specs.contexts.Groups.{Left, side_group}
-use Rattle.cv_directory_sorts.specs.Sites.{first_of}
+use Rattle.cv_syntax_trees.specs.sites.Sites.{first_of}
 use Rattle.cv_scope_rules.specs.declared.position.Position.TheVariants.{Anywhere}
 use Rattle.cv_scene_view.specs.Kept.{scene_of}
 use Rattle.cv_scene.specs.Instances.{Matching}

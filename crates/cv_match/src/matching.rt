@@ -3,7 +3,7 @@ ghost use Rattle.cv_syntax.specs.Classes.{equiv_in};
 ghost use Rattle.cv_syntax_trees.specs.Tree.{size};
 ghost use Rattle.cv_syntax.specs.PoolTrees.{tree_at};
 ghost use Rattle.cv_directory.specs.Live.{IsLive};
-ghost use Rattle.cv_directory_sorts.specs.Sites as directory;
+ghost use Rattle.cv_syntax_trees.specs.sites.Sites as directory;
 ghost use Rattle.cv_scope_rules.specs.typing.Signature.{OfGame};
 ghost use Rattle.cv_typing.specs.Tables.{arrays_of};
 ghost use Rattle.cv_scene.specs.Refusals.{first_refusal};

@@ -4,15 +4,14 @@ use Rattle.std.specs.Prelude.{if◌then◌else◌}
 use Rattle.std.proofs.lemmas.Bool.{and_from}
 use Rattle.std.proofs.lemmas.List.{length-reverse, map-append, reverse-append, reverse-reverse}
 use Rattle.cv_syntax_trees.specs.Tree.{Tree, same_tree}
-use Rattle.cv_syntax_trees.proofs.Equality.{same_tree_exact}
-use Rattle.cv_syntax_trees.proofs.Equality.{same_tree_self}
+use Rattle.cv_syntax_trees.proofs.Equality.{same_tree_exact, same_tree_self}
 use Rattle.cv_meaning.specs.contexts.Groups.{Function, Group}
 use Rattle.cv_scene.specs.Scenes.{or_empty}
 use Rattle.cv_scene.specs.Sights.{variable_of}
 use Rattle.cv_scene.specs.Instances.{Instance, IsInstance, Matching, are_of_types, filled, guess, instance_of, is_argument_of, is_coin_of, is_instance, is_read_of, names_of, standing_for, term_for, terms_of}
 use Rattle.cv_match_laws.specs.Named.{ReadsItsNames}
 use Rattle.cv_match_laws.proofs.Standing.{pairs, standing_terms}
-use Rattle.cv_lists.proofs.Places.{reverse_cons, length_map}
+use Rattle.cv_syntax_trees.proofs.lists.Places.{reverse_cons, length_map}
 
 reversed_map : {A B : Type 0} (f : A → B) (xs : List A) → reverse (map f xs) ≡ map f (reverse xs)
 reversed_map f [] = refl

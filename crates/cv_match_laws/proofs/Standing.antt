@@ -3,12 +3,12 @@ use Rattle.std.proofs.Common.{◌≡◌, ℕ, Bool, true, false, ◌&&◌, List,
 use Rattle.std.specs.Prelude.{◌||◌, ◌==◌, if◌then◌else◌}
 use Rattle.cv_syntax_trees.specs.declared.head.Head.TheVariants.{Cons, Leaf}
 use Rattle.cv_syntax_trees.specs.Tree.{Tree, Empty, Node, chain}
-use Rattle.cv_directory_sorts.specs.Sites.{first_of}
+use Rattle.cv_syntax_trees.specs.sites.Sites.{first_of}
 use Rattle.cv_scene.specs.lines.Given.{or_node, term_for, with_given}
 use Rattle.cv_scene.specs.Scenes.{or_empty}
 use Rattle.cv_scene.specs.Instances.{standing_for}
 use Rattle.cv_match_laws.specs.Named.{AreApart, Each, has_bare_leaves, has_leaf}
-use Rattle.cv_lists.proofs.Tests.{and_first, and_second}
+use Rattle.cv_syntax_trees.proofs.lists.Tests.{and_first, and_second}
 
 by_parts : (u : Tree) (o p : Option Tree) (c d : Bool) → o ≡ (if c then Some u else None) → p ≡ (if d then Some u else None) → first_of o p ≡ (if c || d then Some u else None)
 by_parts u o p true d e f = ap (λ q. first_of q p) e

@@ -14,7 +14,7 @@ use Rattle.cv_meaning_chances.proofs.Within.{count_same_off, total_above}
 use Rattle.cv_meaning_chances.proofs.Covers.{same_chance}
 use Rattle.cv_meaning_chances.proofs.FractionLaws.{at_most_trans}
 use Rattle.cv_meaning_chances.proofs.Totals.{once_values}
-use Rattle.cv_lists.proofs.Each.{AllByRecursion_append}
+use Rattle.cv_syntax_trees.proofs.lists.Each.{AllByRecursion_append}
 
 abbrev Sized : Type 0
 Sized = Cell × ℕ

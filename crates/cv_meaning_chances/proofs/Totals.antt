@@ -1,5 +1,5 @@
 -- The cells of an experiment have values where its choices have, and then it has tapes.
-use Rattle.std.proofs.Common.{ℕ, suc, ◌<◌, ◌≤◌, Bool, true, false, cond, not, ◌==◌, List, [], ◌∷◌, filter, arith}
+use Rattle.std.proofs.Common.{ℕ, suc, ◌<◌, ◌≤◌, Bool, true, false, cond, not, ◌==◌, List, [], ◌∷◌, filter, arith, mul-pos}
 use Rattle.std.specs.List.{AllByRecursion}
 use Rattle.cv_syntax_trees.specs.declared.head.Head.{Head}
 use Rattle.cv_syntax_trees.specs.declared.head.Head.TheVariants.{New, Let, Binder, Find, Key, Call, Secret, SecretOnce}
@@ -15,8 +15,7 @@ use Rattle.cv_meaning_chances.specs.Tests.{HasValues}
 use Rattle.cv_meaning_chances.specs.Fractions.{HasTapes}
 use Rattle.cv_meaning_chances.specs.Choices.{HeadHasValues, ChoicesHaveValues}
 use Rattle.cv_meaning_chances.proofs.Within.{total_above}
-use Rattle.std.proofs.Common.{mul-pos}
-use Rattle.cv_lists.proofs.Each.{AllByRecursion_append}
+use Rattle.cv_syntax_trees.proofs.lists.Each.{AllByRecursion_append}
 
 abbrev HasValue : Cell × ℕ → Type 0
 HasValue c = 0 < c.1

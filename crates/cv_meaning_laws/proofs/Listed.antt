@@ -17,7 +17,7 @@ use Rattle.cv_meaning.specs.Cells.{tuples_below, bounds_under, at_each_copy, cel
 use Rattle.cv_meaning.specs.Experiments.{visits_of_run, coins_on}
 use Rattle.cv_meaning_laws.proofs.Counts.{same_cell_refl, same_cell_exact}
 use Rattle.cv_meaning_laws.proofs.Moves.{TakenEach, admitted_each}
-use Rattle.cv_lists.proofs.Each.{AllByRecursion_weaker, AllByRecursion_append}
+use Rattle.cv_syntax_trees.proofs.lists.Each.{AllByRecursion_weaker, AllByRecursion_append}
 
 abbrev pub Has : {A : Type 0} → List A → A → Type 0
 Has [] a = ⊥

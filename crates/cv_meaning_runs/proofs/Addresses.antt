@@ -16,7 +16,7 @@ use Rattle.cv_meaning_runs.specs.Spots.{same_spot, spot_of_input, spots_of_visit
 use Rattle.cv_meaning_runs.proofs.Lists.{distinct_right}
 use Rattle.cv_meaning_runs.proofs.Placed.{inputs_subtrees}
 use Rattle.cv_meaning_runs.proofs.Spots.{spots_distinct}
-use Rattle.cv_lists.proofs.Each.{AllByRecursion_weaker}
+use Rattle.cv_syntax_trees.proofs.lists.Each.{AllByRecursion_weaker}
 
 other_address : (c : ℕ) (u : List ℕ) (i j : Input) → is_at c u i ≡ true → same_address i j ≡ false → is_at c u j ≡ false
 other_address c u i j e f = go (is_at c u j) refl

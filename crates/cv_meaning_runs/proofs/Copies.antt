@@ -10,7 +10,7 @@ use Rattle.cv_meaning.specs.Inputs.{Input, inputs_of}
 use Rattle.cv_meaning_runs.proofs.Lists.{Pairwise, pairwise_append}
 use Rattle.cv_meaning_runs.specs.Spots.{Spot, spot_of_input}
 use Rattle.cv_meaning_laws.proofs.Listed.{tuple_push}
-use Rattle.cv_lists.proofs.Each.{AllByRecursion_append, AllByRecursion_weaker, AllByRecursion_cross}
+use Rattle.cv_syntax_trees.proofs.lists.Each.{AllByRecursion_append, AllByRecursion_weaker, AllByRecursion_cross}
 
 -- the spots below a node, and those of a copy of an input
 

@@ -22,7 +22,7 @@ use Rattle.cv_meaning_runs.proofs.Placed.{visits_have}
 use Rattle.cv_meaning_runs.specs.Agreement.{AgreeAt, IsLocal, SameRun}
 use Rattle.cv_meaning_runs.proofs.Together.{visits_among_moments, consulted_same}
 use Rattle.cv_meaning_runs.proofs.Tested.{Sized, nothing_assigned, inputs_tested, IsCellListed, AreTestsListed, run_listed}
-use Rattle.cv_lists.proofs.Each.{AllByRecursion_append, AllByRecursion_weaker, AllByRecursion_left, AllByRecursion_right}
+use Rattle.cv_syntax_trees.proofs.lists.Each.{AllByRecursion_append, AllByRecursion_weaker, AllByRecursion_left, AllByRecursion_right}
 
 has_listed : (g : Setting) (m : Mode) (a : Adversary) (game : Tree) (c : Cell) (n : ℕ) → Has (at_each_copy g (cells_at g) [] game ++ (test_cells g m game ++ coin_cells 0 a.coins)) (c, n) → IsListed (cells g m a game) c
 unfolding cells

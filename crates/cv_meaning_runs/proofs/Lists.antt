@@ -1,7 +1,7 @@
 -- Lists whose elements have a property, and whose elements are related in pairs.
 use Rattle.std.proofs.Common.{◌≡◌, Bool, false, List, [], ◌∷◌, ◌++◌}
 use Rattle.std.specs.List.{AllByRecursion, IsDistinct}
-use Rattle.cv_lists.proofs.Each.{AllByRecursion_left, AllByRecursion_append}
+use Rattle.cv_syntax_trees.proofs.lists.Each.{AllByRecursion_left, AllByRecursion_append}
 
 abbrev pub Pairwise : {A : Type 0} → (A → A → Type 0) → List A → Type 0
 Pairwise R [] = Unit {0}

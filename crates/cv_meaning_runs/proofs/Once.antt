@@ -18,7 +18,7 @@ use Rattle.cv_meaning_runs.proofs.Lists.{distinct_left, distinct_right}
 use Rattle.cv_meaning_runs.proofs.Placed.{visits_have, visits_subtrees}
 use Rattle.cv_meaning_runs.proofs.Listed.{no_calls_down}
 use Rattle.cv_meaning_runs.proofs.Spots.{spots_distinct}
-use Rattle.cv_lists.proofs.Each.{AllByRecursion_append, AllByRecursion_both, AllByRecursion_left, AllByRecursion_right}
+use Rattle.cv_syntax_trees.proofs.lists.Each.{AllByRecursion_append, AllByRecursion_both, AllByRecursion_left, AllByRecursion_right}
 
 -- what is known of a visit
 abbrev Stands : Tree → Visit → Type 0

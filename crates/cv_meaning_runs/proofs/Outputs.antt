@@ -14,7 +14,7 @@ use Rattle.cv_meaning_runs.specs.Simulation.{InOrder, AreServedAlike}
 use Rattle.cv_meaning_runs.specs.Replacement.{AreLikeInputs, SameMemory, ServeAlike, if_tree, IsDecided}
 use Rattle.cv_meaning.specs.Replaced.{is_output}
 use Rattle.cv_meaning_runs.proofs.Replacement.{inputs_same, serve_same}
-use Rattle.cv_lists.proofs.Each.{AllByRecursion_trivial}
+use Rattle.cv_syntax_trees.proofs.lists.Each.{AllByRecursion_trivial}
 
 pub output_begins : (g : Setting) (t : Tape) (b : Tree) (p k : ℕ) (vs : List ℕ) (s : Local) → is_output b ≡ true → serve g t b p k vs s ≡ serve g t b p 0 [] s
 unfolding serve step

@@ -16,7 +16,7 @@ use Rattle.cv_meaning.specs.Experiments.{run, visits_of_run, coins_on}
 use Rattle.cv_meaning_laws.proofs.Lists.{each_flat_map}
 use Rattle.cv_meaning_laws.proofs.Moves.{TakenEach, admitted_each}
 use Rattle.cv_meaning_runs.specs.Placed.{IsPassedDown, IsInputOn, InputHas, VisitHas, IsSubtree, IsSubtreeOrList}
-use Rattle.cv_lists.proofs.Each.{AllByRecursion_append, AllByRecursion_weaker}
+use Rattle.cv_syntax_trees.proofs.lists.Each.{AllByRecursion_append, AllByRecursion_weaker}
 
 module _ (P : ℕ → Tree → Type 0) (down : IsPassedDown P) where
   inputs_have : (g : Setting) (b : Tree) (p : ℕ) (at : Indices) → P p b → AllByRecursion (InputHas P) (inputs_of g b p at)

@@ -12,7 +12,7 @@ use Rattle.cv_meaning.specs.Runs.{Mode, Adversary, Answer, Refused, Replied, Tol
 use Rattle.cv_meaning.specs.Experiments.{run, visits_of_run, coins_on}
 use Rattle.cv_meaning_runs.specs.Simulation.{InOrder, AreAlike, IsSimulation, IsGameSimulation}
 use Rattle.cv_meaning_runs.proofs.Together.{coins_same}
-use Rattle.cv_lists.proofs.Each.{AllByRecursion_left, AllByRecursion_right}
+use Rattle.cv_syntax_trees.proofs.lists.Each.{AllByRecursion_left, AllByRecursion_right}
 
 pub in_order_append : {A B : Type 0} (R : A → B → Type 0) (xs vs : List A) (ys ws : List B) → InOrder R xs ys → InOrder R vs ws → InOrder R (xs ++ vs) (ys ++ ws)
 in_order_append R [] vs [] ws h k = k

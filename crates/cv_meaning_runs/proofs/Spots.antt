@@ -20,7 +20,7 @@ use Rattle.cv_meaning_runs.proofs.Lists.{Pairwise, pairwise_append}
 use Rattle.cv_meaning_runs.proofs.Copies.{Extends, IsBetween, Under, Within, Apart, apart_back, extends_refl, Copies, copies_among, copies_append, inputs_copies}
 use Rattle.cv_meaning_laws.proofs.Moves.{TakenEach, taken_each}
 use Rattle.cv_meaning_runs.specs.Spots.{Spot, same_spot, spot_of_input, spots_of_visit, spots_of_visits, spots_of_inputs}
-use Rattle.cv_lists.proofs.Each.{AllByRecursion_append, AllByRecursion_weaker, AllByRecursion_both, AllByRecursion_cross}
+use Rattle.cv_syntax_trees.proofs.lists.Each.{AllByRecursion_append, AllByRecursion_weaker, AllByRecursion_both, AllByRecursion_cross}
 
 -- a service: its visits' spots, and the copies that it opens
 

@@ -19,7 +19,7 @@ use Rattle.cv_meaning.specs.Runs.{Mode, Random, Answer, Move, Calls, Tests, Gues
 use Rattle.cv_meaning_laws.proofs.Moves.{TakenEach, admitted_each}
 use Rattle.cv_meaning_runs.specs.Moments.{Moment, Visited, Tested, cells_of_test, moments_of_move, run_moments}
 use Rattle.cv_meaning_runs.specs.Listed.{head_is_testable, is_testable}
-use Rattle.cv_lists.proofs.Each.{AllByRecursion_append}
+use Rattle.cv_syntax_trees.proofs.lists.Each.{AllByRecursion_append}
 
 abbrev pub Sized : Type 0
 Sized = Cell × ℕ

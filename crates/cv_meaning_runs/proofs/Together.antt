@@ -16,7 +16,7 @@ use Rattle.cv_meaning.specs.Cells.{coin_cells}
 use Rattle.cv_meaning.specs.Experiments.{run, visits_of_run, coins_on}
 use Rattle.cv_meaning_runs.specs.Moments.{Moment, Visited, Tested, cells_of_test, cells_of_moment, moments_of_move, run_moments, moments_of_run, visits_among, cells_of_run}
 use Rattle.cv_meaning_runs.specs.Agreement.{AgreeAt, AgreeOff, AgreeBut, IsLocal, SameRun, SameUpTo, consults, visit_consults}
-use Rattle.cv_lists.proofs.Each.{list_any_append}
+use Rattle.cv_syntax_trees.proofs.lists.Each.{list_any_append}
 
 -- lists
 

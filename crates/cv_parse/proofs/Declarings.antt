@@ -3,7 +3,7 @@ use Rattle.std.proofs.Common.{◌≡◌, ℕ, zero, suc, ◌+◌, ◌<◌, ◌�
 use Rattle.std.proofs.lemmas.List.{drop_all}
 use Rattle.std.specs.Prelude.{flat_map, option_map}
 use Rattle.std.specs.List.{AllByRecursion}
-use Rattle.cv_lists.proofs.Tests.{or_first, or_second}
+use Rattle.cv_syntax_trees.proofs.lists.Tests.{or_first, or_second}
 use Rattle.cv_syntax_trees.specs.declared.class.Class.{Class}
 use Rattle.cv_syntax_trees.specs.declared.class.Class.TheVariants as class
 use Rattle.cv_syntax.specs.declared.decls.Decl.{Decl}

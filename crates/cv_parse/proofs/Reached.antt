@@ -19,7 +19,7 @@ use Rattle.cv_parse.specs.Games.{nodes_of}
 use Rattle.cv_parse.specs.Stages.{IsTerm, shifted}
 use Rattle.cv_parse.specs.Terms.{ReadsTerm, names_by, names_within, of_term, read_term, roomed_term, term_of}
 use Rattle.cv_parse.proofs.Outcomes.{refuses_on}
-use Rattle.cv_lists.proofs.Tests.{then_branch, else_branch}
+use Rattle.cv_syntax_trees.proofs.lists.Tests.{then_branch, else_branch}
 
 -- an error that was passed on
 pub term_passed_on : (read : Result (Tree × ℕ) ParseError) (trees : List KindTree) (r : Result (NodeId × ℕ) ParseError) (e : ParseError) → IsErrAnd r (λ x. x ≡ e) → Refuses e read → ReadsTerm read trees r

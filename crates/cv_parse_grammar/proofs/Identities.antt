@@ -1,7 +1,7 @@
 -- The names that a file declares are those that its uses of names declare.
 use Rattle.std.proofs.Common.{◌≡◌, ◌⊎◌, ℕ, zero, suc, Bool, true, false, ◌&&◌, ◌||◌, ◌==◌, subst, not, List, [], ◌∷◌, ◌++◌, map, append_assoc, append-nil, inl, inr, refl, ap, ap₂, sym, ◌∙◌, Option, Some, None}
 use Rattle.std.specs.Prelude.{flat_map}
-use Rattle.cv_lists.proofs.Tests.{and_first, and_second}
+use Rattle.cv_syntax_trees.proofs.lists.Tests.{and_first, and_second}
 use Rattle.cv_syntax_trees.specs.Tree.{Tree, Node}
 use Rattle.cv_syntax_trees.specs.declared.head.Head.TheVariants.{Equivalence, Forall}
 use Rattle.cv_syntax_trees.specs.declared.class.Class.{Class}

@@ -4,7 +4,7 @@ use Rattle.std.specs.List.{list_any}
 use Rattle.cv_syntax_trees.specs.declared.head.Head.{Head}
 use Rattle.cv_syntax_trees.specs.declared.head.Head.TheVariants.{Repl, In, Out, New, Let, Leaf, Read, Cons, Binder}
 use Rattle.cv_syntax_trees.specs.Tree.{Tree, Empty, Node, lone, chain, names}
-use Rattle.cv_lists.specs.Options.{first_of}
+use Rattle.cv_syntax_trees.specs.lists.Options.{first_of}
 
 -- a definition of the variable
 abbrev pub defines : Head → ℕ → Bool

@@ -28,7 +28,7 @@ use Rattle.cv_parse.specs.Parsed.{Parsed, parsed, range_of}
 use Rattle.cv_parse.proofs.Exactness.{said_is_saying}
 use Rattle.cv_parse_laws.specs.Blocks.{around}
 use Rattle.cv_parse_laws.proofs.Braced.{Alike, file_alike, is_brace, number_plain}
-use Rattle.cv_lists.proofs.Tests.{false_from_not}
+use Rattle.cv_syntax_trees.proofs.lists.Tests.{false_from_not}
 
 -- Tokens whose signs were passed, all outside braces.
 record IsPassed (ts : List Token) (ss rest : List Sign) : Type 0 where

@@ -5,7 +5,7 @@ use Rattle.std.specs.Str.{bytes_eq}
 use Rattle.std.proofs.lemmas.Bool.{false_from_ne_true}
 use Rattle.std.proofs.lemmas.Bool.Decides.{nat_tests}
 use Rattle.std.proofs.lemmas.Slice.Eq.{bytes_eq-Decides}
-use Rattle.cv_lists.proofs.Tests.{or_first, or_second}
+use Rattle.cv_syntax_trees.proofs.lists.Tests.{or_first, or_second}
 use Rattle.cv_lex.specs.declared.TokenKind.TheVariants as kind
 use Rattle.cv_lex.specs.Lexis.{Token, IsToken}
 use Rattle.cv_lex.specs.View.{token_at, AreTokens}

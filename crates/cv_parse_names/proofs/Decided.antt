@@ -1,7 +1,7 @@
 -- The rules by an entry are the rules of names.
 use Rattle.std.proofs.Common.{◌≡◌, ◌==◌, ℕ, Bool, true, false, ◌&&◌, ◌||◌, not, if◌then◌else◌, [], ◌∷◌, ◌++◌, Option, Some, None, refl, ap, ap₂, ◌∙◌}
 use Rattle.std.proofs.lemmas.List.Folds.{list_any-append}
-use Rattle.cv_lists.proofs.Tests.{not_or}
+use Rattle.cv_syntax_trees.proofs.lists.Tests.{not_or}
 use Rattle.cv_parse_notation.specs.Spells.{Use}
 use Rattle.cv_parse_grammar.specs.declared.role.Asked.TheVariants.{AParam, AFunction}
 use Rattle.cv_parse_grammar.specs.declared.role.Region.{Region}

@@ -2,7 +2,7 @@
 use Rattle.std.proofs.Common.{◌≡◌, ℕ, ◌<◌, ◌==◌, true, false, List, [], ◌∷◌, map, Option, inl, inr, ◌⊎◌, refl, subst, eqb-true}
 use Rattle.std.proofs.lemmas.Bool.{both_ways}
 use Rattle.std.specs.List.{AllByRecursion, list_any}
-use Rattle.cv_lists.proofs.Each.{AllByRecursion_flat_map}
+use Rattle.cv_syntax_trees.proofs.lists.Each.{AllByRecursion_flat_map}
 use Rattle.cv_syntax_trees.specs.declared.class.Class.{Class}
 use Rattle.cv_syntax_trees.specs.Declarations.{Declaration, Named, Equation, Equiv, Query}
 use Rattle.cv_syntax_trees.specs.Tree.{Tree}
@@ -20,7 +20,7 @@ use Rattle.cv_parse_laws.proofs.roles.Forms.{enclosed}
 use Rattle.cv_scene.specs.Scenes.{asks_for}
 use Rattle.cv_parse_sorts.proofs.SmallNames.{AreBelow}
 use Rattle.cv_parse_sorts.proofs.UsedNames.{forms_keep}
-use Rattle.cv_lists.proofs.Tests.{or_cases}
+use Rattle.cv_syntax_trees.proofs.lists.Tests.{or_cases}
 
 module _ (bound : ℕ) (some : 0 < bound) where
   -- the name for whose secrecy a query asks is below the bound

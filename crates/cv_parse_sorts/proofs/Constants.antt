@@ -22,7 +22,7 @@ use Rattle.cv_match_laws.specs.answers.Answers.{KnowsConstants}
 use Rattle.cv_steps.specs.Sequences.{scene}
 use Rattle.cv_parse_sorts.proofs.SmallNames.{AreBelow, signs_below, some_name}
 use Rattle.cv_parse_sorts.proofs.UsedNames.{forms_keep}
-use Rattle.cv_lists.proofs.Tests.{or_cases}
+use Rattle.cv_syntax_trees.proofs.lists.Tests.{or_cases}
 
 module _ (bound : ℕ) (some : 0 < bound) where
   abbrev Below : Role → ℕ → Type 0

@@ -2,7 +2,7 @@
 use Rattle.std.proofs.Common.{ℕ, suc, ◌<◌, ◌≤◌, true, false, if◌then◌else◌, List, [], ◌∷◌, length, Option, Some, None, arith, codes}
 use Rattle.std.specs.List.{AllByRecursion}
 use Rattle.std.specs.Str.{bytes_eq}
-use Rattle.cv_lists.proofs.Each.{AllByRecursion_append, AllByRecursion_weaker}
+use Rattle.cv_syntax_trees.proofs.lists.Each.{AllByRecursion_append, AllByRecursion_weaker}
 use Rattle.cv_lex.specs.declared.TokenKind.{TokenKind}
 use Rattle.cv_lex.specs.declared.TokenKind.TheVariants as kind
 use Rattle.cv_lex.specs.Lexis.{Token}

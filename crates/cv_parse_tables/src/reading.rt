@@ -8,12 +8,11 @@ ghost use Rattle.cv_parse_tables.specs.Table.{outer_form, never, Chooses, rows_o
 
 use crate::fronts::begins_at;
 use crate::piece::{Outer, Piece};
-use crate::trees::{close_all, close_over};
+use crate::trees::{close_all, close_over, leaf};
 use cv_parse_grammar::Role;
 use cv_parse_notation::Sign;
 use cv_parse_terms::{
-    ReadError, Trail, close_chain, enter_marked, expect, leaf, note, number, script_word, shallow,
-    word,
+    ReadError, Trail, close_chain, enter_marked, expect, note, number, script_word, shallow, word,
 };
 use cv_syntax::Head;
 

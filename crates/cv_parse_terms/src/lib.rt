@@ -19,4 +19,4 @@ pub use marked::enter_marked;
 pub use phrases::{enter, enter_with_names, term};
 pub use piece::{Ahead, Closing, Naming, Pairing, Piece};
 pub use tokens::{find_word, note, number, script_word, unnamed, word, zero};
-pub use trail::{NameUse, Trail, close_chain, leaf};
+pub use trail::{NameUse, Trail, close_chain};

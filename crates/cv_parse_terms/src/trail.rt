@@ -1,6 +1,4 @@
 ghost use Rattle.std.specs.Prelude.{◌≡◌, ◌+◌, ◌++◌, ◌∷◌, [], OnOk, replicate};
-ghost use Rattle.cv_syntax_trees.specs.Tree.{lone};
-ghost use Rattle.cv_syntax.specs.Postorder.{postorder};
 ghost use Rattle.cv_syntax.specs.declared.make.Make.TheVariants.{Nothing, Over};
 ghost use Rattle.cv_syntax_trees.specs.declared.head.Head.TheVariants.{Cons};
 
@@ -34,17 +32,6 @@ impl Trail {
             makes: Vec::new(alloc),
         }
     }
-}
-
-/// Makes a tree without children.
-#[tactic(auto, unfolding(cv_syntax::specs::Postorder::postorder), using(crate::proofs::Made::makes))]
-pub fn leaf(makes: &mut Vec<Make>, head: Head) -> Result<(), AllocError>
-    ensures { OnOk result (makes.new.items ≡ makes.old.items ++ postorder (lone head)) }
-{
-    makes.push(Make::Nothing)?;
-    makes.push(Make::Nothing)?;
-    makes.push(Make::Over(head))?;
-    Ok(())
 }
 
 /// Makes a list of so many trees, which were made before.

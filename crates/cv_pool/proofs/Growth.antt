@@ -24,6 +24,9 @@ pub ChildBelow_more : (m n : ℕ) (o : Option NodeId) → m ≤ n → ChildBelow
 ChildBelow_more m n None h b = tt
 ChildBelow_more m n (Some k) h b = omega arith
 
+pub Grows_same : (old new : PoolView) → new.trees ≡ old.trees → new.limit ≡ old.limit → Grows old new
+Grows_same old new e l = record { kept = ap (take (length old.trees)) e ∙ take-length old.trees; limit = l }
+
 pub Grows_refl : (s : PoolView) → Grows s s
 Grows_refl s = record { kept = take-length s.trees; limit = refl }
 

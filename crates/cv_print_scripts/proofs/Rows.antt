@@ -1,7 +1,7 @@
 -- What is printed for a row has the signs that are shown, piece by piece.
 use Rattle.std.proofs.Common.{◌≡◌, ℕ, zero, suc, ◌+◌, Bool, true, false, ◌&&◌, ◌||◌, ◌==◌, not, if◌then◌else◌, List, [], ◌∷◌, ◌++◌, length, refl, ap, sym, subst, ◌∙◌, codes, append_assoc}
 use Rattle.std.specs.Prelude.{slice_index_or}
-use Rattle.cv_lists.proofs.Tests.{and_first, and_second}
+use Rattle.cv_syntax_trees.proofs.lists.Tests.{and_first, and_second}
 use Rattle.cv_syntax_trees.specs.Tree.{Tree, Empty, Node, first, second}
 use Rattle.cv_syntax_trees.specs.declared.head.Head.TheVariants as head
 use Rattle.cv_parse_notation.specs.declared.sign.Mark.{Mark}

@@ -5,18 +5,18 @@ use Rattle.std.proofs.lemmas.Bool.{and_parts}
 use Rattle.std.proofs.lemmas.List.{drop_all, drop_more}
 use Rattle.std.specs.List.{list_all}
 use Rattle.std.proofs.Math.Path.{fun_ext}
-use Rattle.cv_lists.specs.Options.{first_of}
+use Rattle.cv_syntax_trees.specs.lists.Options.{first_of}
 use Rattle.cv_syntax_trees.specs.declared.head.Head.{Head}
 use Rattle.cv_syntax_trees.specs.declared.head.Head.TheVariants.{AboveRoute, AtEntry, CellRoute, Cons, Defined, DistinctPart, Eq, HoldsRoute, Leaf, NeverEntry, Pair, SecretPair, WithEntry}
 use Rattle.cv_syntax_trees.specs.Tree.{Tree, Empty, Node, first}
-use Rattle.cv_syntax.proofs.Trees.{tree_of_NoTree}
-use Rattle.cv_meaning.specs.Correspondences.{Atom, Correspondence, RightEvent, RightTerm, atom_of}
+use Rattle.cv_syntax.proofs.Trees.{tree_of_NoTree, tree_at_None}
+use Rattle.cv_meaning.specs.Correspondences.{Atom, Correspondence, RightEvent, RightTerm, atom_of, leaf_names}
 use Rattle.cv_query_certificates.specs.Alternatives.{atoms_of_chosen, chosen_atoms, chosen_by, number_in, routes_of}
 use Rattle.cv_query_parts.specs.Alternatives.{atoms_seen}
 use Rattle.cv_query_parts.specs.declared.alternatives.NumberedAtom.{NumberedAtom}
 use Rattle.cv_scene.specs.lines.Ends.{is_end}
 use Rattle.cv_scene.specs.lines.Given.{given_for, or_node, term_for, with_given}
-use Rattle.cv_scene.specs.lines.Lines.{Holds as HoldsTerm, IsDefined, lines_of, statements}
+use Rattle.cv_scene.specs.lines.Lines.{Holds as HoldsTerm, IsDefined, lines_of, statements, count}
 use Rattle.cv_scene.specs.lines.Targets.{falsity, target}
 use Rattle.cv_scene.specs.lines.Truths.{no}
 use Rattle.cv_scene.specs.Derivations.{first_bad_line}
@@ -33,11 +33,8 @@ use Rattle.cv_query_entries.specs.ends.Said.{said_equal}
 use Rattle.cv_query_entries.specs.Nodes.{rows_above}
 use Rattle.cv_query_parts.specs.Said.{Saying, Never, Nothing, With, Way, Above, ByCell, Holds, NoWay, saying_of, way_of}
 use Rattle.cv_pool.specs.KindTree.{KindTree}
-use Rattle.cv_syntax.proofs.Trees.{tree_at_None}
 use Rattle.cv_syntax.specs.PoolTrees.{tree_at}
-use Rattle.cv_meaning.specs.Correspondences.{leaf_names}
-use Rattle.cv_lists.proofs.Tests.{and_true}
-use Rattle.cv_scene.specs.lines.Lines.{count}
+use Rattle.cv_syntax_trees.proofs.lists.Tests.{and_true}
 use Rattle.cv_query_entries.specs.declared.terms.given.Given.{Given}
 use Rattle.cv_query_entries.specs.declared.terms.given.Part.{Part}
 use Rattle.cv_query_entries.specs.terms.Parts.{part_tree, put_if, terms_of}

@@ -2,7 +2,7 @@
 use Rattle.std.proofs.Common.{◌≡◌, ℕ, ◌+◌, ◌<◌, ◌≤◌, Bool, true, false, List, drop, get_or, length, Option, Some, None, refl, sym, ap, ap₂, ◌∙◌}
 use Rattle.std.specs.List.{list_all}
 use Rattle.std.proofs.lemmas.List.{drop_all, drop_more}
-use Rattle.cv_lists.specs.Options.{first_of}
+use Rattle.cv_syntax_trees.specs.lists.Options.{first_of}
 use Rattle.cv_syntax_trees.specs.declared.head.Head.{Head}
 use Rattle.cv_syntax_trees.specs.declared.head.Head.TheVariants.{EventsCertificate}
 use Rattle.cv_syntax_trees.specs.Tree.{Tree, Empty, Node, first, second}
@@ -13,7 +13,7 @@ use Rattle.cv_scene.specs.Scenes.{Scene}
 use Rattle.cv_query_certificates.specs.Claims.{Claim, entry_claims}
 use Rattle.cv_query_certificates.specs.Failures.{Failure, certificate_failure, failure, first_failing, first_unformed, least_place}
 use Rattle.cv_query_certificates.specs.Forms.{has_form, left_places}
-use Rattle.cv_lists.proofs.Options.{some_none}
+use Rattle.cv_syntax_trees.proofs.lists.Options.{some_none}
 
 parts_none : (x y : Option ℕ) → first_of x y ≡ None → (x ≡ None) × (y ≡ None)
 parts_none None y e = (refl, e)

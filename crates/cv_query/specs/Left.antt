@@ -1,6 +1,6 @@
 -- What is left of a certificate, once its entries were tested.
 use Rattle.std.specs.Prelude.{All, List, [], Option, length, option_map}
-use Rattle.cv_lists.specs.Options.{first_of}
+use Rattle.cv_syntax_trees.specs.lists.Options.{first_of}
 use Rattle.cv_pool.specs.KindTree.{KindTree}
 use Rattle.cv_pool.specs.Nodes.{ChildBelow}
 use Rattle.cv_syntax.specs.PoolTrees.{tree_at}

@@ -17,12 +17,12 @@ ghost use Rattle.cv_query_parts.specs.Said.{saying_of};
 
 use crate::claims::derivation_of;
 use cv_derive::{DeriveFault, check};
-use cv_directory_sorts::Sort;
 use cv_query_parts::{
     Asked, Entry, NumberedAtom, View, atom_of, choice_of, chosen_atoms, entry_of, route_of,
 };
 use cv_scene_view::{indices_at, replications_at};
 use cv_syntax::{Game, NodeId, read_node};
+use cv_syntax_trees::sites::Sort;
 use std::alloc::{AllocError, Global};
 use std::collections::HashMap;
 

@@ -3,7 +3,7 @@ use Rattle.std.proofs.Common.{◌≡◌, ◌↔◌, ℕ, Bool, true, false, List
 use Rattle.std.specs.Prelude.{not, is_some}
 use Rattle.std.proofs.lemmas.Bool.{and_parts, and_from}
 use Rattle.std.specs.List.{AllByRecursion, list_all}
-use Rattle.cv_lists.specs.Options.{first_of}
+use Rattle.cv_syntax_trees.specs.lists.Options.{first_of}
 use Rattle.cv_syntax_trees.specs.declared.head.Head.TheVariants.{EventsCertificate, Query, Secret, SecretCertificate, SecretOnce}
 use Rattle.cv_syntax_trees.specs.Tree.{Tree, Empty, Node}
 use Rattle.cv_meaning.specs.Correspondences.{Correspondence, correspondence_of}
@@ -19,7 +19,7 @@ use Rattle.cv_query_certificates.specs.PairParts.{behind_entries, distinct_in, f
 use Rattle.cv_query_certificates.specs.Pairs.{needed_pairs}
 use Rattle.cv_query_certificates.specs.SecretPairs.{first_wrong_secret, needed_secrets}
 use Rattle.cv_query_certificates.specs.Secrets.{AreUnreadChoices, AreUnreadCopies, IsSecret, earlier, first_offence_of_choices, first_offence_of_copies}
-use Rattle.cv_lists.proofs.Options.{some_none, none_from_not_some, first_of_none}
+use Rattle.cv_syntax_trees.proofs.lists.Options.{some_none, none_from_not_some, first_of_none}
 use Rattle.cv_query_certificates.proofs.Pairing.{names_pass, names_stand, no_entry, pairs_pass, pairs_stand}
 use Rattle.cv_query_certificates.proofs.SecretPairing.{none_given, secrets_pass, secrets_stand}
 

@@ -4,9 +4,9 @@ use Rattle.std.specs.List.{AllByRecursion}
 use Rattle.cv_syntax.specs.faults.Walk.{first_fault}
 use Rattle.cv_syntax_trees.specs.Tree.{reads_only, size, subtree, same_tree}
 use Rattle.cv_meaning.specs.Queries.{queries_in}
-use Rattle.cv_directory_sorts.specs.Sites.{bound_sort, first_index, first_site}
+use Rattle.cv_syntax_trees.specs.sites.Sites.{bound_sort, first_index, first_site}
 use Rattle.cv_scope_rules.specs.typing.Signature.{names_in}
-use Rattle.cv_directory_sorts.specs.Counting as counting
+use Rattle.cv_syntax_trees.specs.sites.Counting as counting
 use Rattle.cv_scope_rules.specs.typing.Typing.{binders_differ}
 use Rattle.cv_scope_rules.specs.Context.{context_at}
 use Rattle.cv_scope_rules.specs.Made.{is_bound}

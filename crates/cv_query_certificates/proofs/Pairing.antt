@@ -3,8 +3,8 @@
 use Rattle.std.proofs.Common.{◌≡◌, ℕ, Bool, true, false, List, [], ◌∷◌, Option, Some, None, refl, ap, ◌∙◌}
 use Rattle.std.specs.Prelude.{if◌then◌else◌, is_some}
 use Rattle.std.proofs.lemmas.Bool.{both_ways}
-use Rattle.cv_lists.specs.Options.{first_of}
-use Rattle.cv_lists.proofs.Options.{some_none, first_of_none}
+use Rattle.cv_syntax_trees.specs.lists.Options.{first_of}
+use Rattle.cv_syntax_trees.proofs.lists.Options.{some_none, first_of_none}
 use Rattle.cv_syntax_trees.specs.declared.head.Head.TheVariants.{AtEntry, DistinctPart, Pair}
 use Rattle.cv_syntax_trees.specs.Tree.{Tree, Empty, Node}
 use Rattle.cv_scene.specs.Large.{first_other_site, is_large}

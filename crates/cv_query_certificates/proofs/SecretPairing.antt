@@ -1,7 +1,7 @@
 -- Where no pair of a secret is wrong, each that is needed is given, and the other way round.
 use Rattle.std.proofs.Common.{◌≡◌, ℕ, List, [], ◌∷◌, None, refl, ap, ◌∙◌}
-use Rattle.cv_lists.specs.Options.{first_of}
-use Rattle.cv_lists.proofs.Options.{first_of_none, some_none}
+use Rattle.cv_syntax_trees.specs.lists.Options.{first_of}
+use Rattle.cv_syntax_trees.proofs.lists.Options.{first_of_none, some_none}
 use Rattle.cv_syntax_trees.specs.declared.head.Head.TheVariants.{SecretPair}
 use Rattle.cv_syntax_trees.specs.Tree.{Tree, Empty, Node}
 use Rattle.cv_scene.specs.Scenes.{Scene}

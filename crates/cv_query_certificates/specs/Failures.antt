@@ -2,7 +2,7 @@
 -- closed only once is the sequence's test. This profile's own.
 use Rattle.std.specs.Prelude.{ℕ, Bool, true, false, not, if◌then◌else◌, List, [], ◌∷◌, Option, None, Some, is_some, option_map}
 use Rattle.std.specs.List.{list_all}
-use Rattle.cv_lists.specs.Options.{first_of}
+use Rattle.cv_syntax_trees.specs.lists.Options.{first_of}
 use Rattle.cv_syntax_trees.specs.declared.head.Head.TheVariants.{AtEntry, EventsCertificate, Secret, SecretCertificate, SecretOnce}
 use Rattle.cv_syntax_trees.specs.Tree.{Tree, Empty, Node, first}
 use Rattle.cv_meaning.specs.Correspondences.{Correspondence, correspondence_of}

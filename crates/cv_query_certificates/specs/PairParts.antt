@@ -2,7 +2,7 @@
 -- each pair that is needed. Which of them is wrong first, and where. This profile's own.
 use Rattle.std.specs.Prelude.{◌≡◌, ℕ, Bool, true, false, ◌&&◌, ◌==◌, nat_lt, not, if◌then◌else◌, List, [], ◌∷◌, map, Option, None, Some, is_some}
 use Rattle.std.specs.List.{list_any}
-use Rattle.cv_lists.specs.Options.{first_of}
+use Rattle.cv_syntax_trees.specs.lists.Options.{first_of}
 use Rattle.cv_syntax_trees.specs.declared.head.Head.TheVariants.{DistinctPart, Line, Name, Pair}
 use Rattle.cv_syntax_trees.specs.Tree.{Tree, Empty, Node, chain, first}
 use Rattle.cv_scene.specs.lines.Ends.{ends_with}

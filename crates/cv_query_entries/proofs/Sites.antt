@@ -15,7 +15,7 @@ use Rattle.cv_derive_reasons.specs.cells.Only.{only_place, replications_by}
 use Rattle.cv_query_certificates.specs.EventNodes.{only_site, the_only}
 use Rattle.cv_query_entries.specs.Nodes.{rows_above}
 use Rattle.cv_derive_reasons.proofs.cells.Rows.{none_past, some_next}
-use Rattle.cv_lists.proofs.Options.{some_pair_first, some_pair_second}
+use Rattle.cv_syntax_trees.proofs.lists.Options.{some_pair_first, some_pair_second}
 
 abbrev place_by : Option Definition → ℕ → Option ℕ
 place_by o n = if n == 1 then option_map (λ (d : Definition). d.place) o else None

@@ -1,7 +1,7 @@
 ghost use Rattle.std.specs.Prelude.{◌≡◌, IfOk, length};
 ghost use Rattle.cv_pool.specs.Nodes.{ChildBelow};
 ghost use Rattle.cv_syntax.specs.PoolTrees.{tree_at};
-ghost use Rattle.cv_directory_sorts.specs.declared.sort.Sort.TheVariants.{OfType};
+ghost use Rattle.cv_syntax_trees.specs.declared.sites.sort.Sort.TheVariants.{OfType};
 ghost use Rattle.cv_typing.specs.Tables.{above_of};
 ghost use Rattle.cv_scene.specs.Sights as sights;
 ghost use Rattle.cv_scene.specs.Sights.{sight_at};
@@ -17,7 +17,6 @@ use crate::cells::site_place;
 use crate::nodes::{are_as_many, is_event_above};
 use cv_derive_lines::Claim;
 use cv_derive_lines::terms::{is_term_of, is_typed_claim};
-use cv_directory_sorts::Sort;
 use cv_query_parts::{
     Asked, Atom, Entry, NumberedAtom, Route, View, atom_of, choice_of, chosen, entry_of, is_number,
     route_of, surplus_entry,
@@ -25,6 +24,7 @@ use cv_query_parts::{
 use cv_scene_view::{indices_at, part_at};
 use cv_syntax::children::{first_of, is_empty};
 use cv_syntax::{NodeId, read_node};
+use cv_syntax_trees::sites::Sort;
 use std::alloc::{AllocError, Global};
 use std::collections::HashMap;
 

@@ -7,9 +7,9 @@ use Rattle.cv_syntax_trees.specs.Tree.{Tree, Empty, Node}
 use Rattle.cv_syntax.specs.NameSets.{is_one_of}
 use Rattle.cv_meaning.specs.Binders.{bound_names}
 use Rattle.cv_meaning.specs.Correspondences.{is_once}
-use Rattle.cv_directory_sorts.specs.declared.sort.Sort.{Sort}
-use Rattle.cv_directory_sorts.specs.declared.sort.Sort.TheVariants.{OfType, BelowParameter}
-use Rattle.cv_directory_sorts.specs.Sites.{Variable, first_site}
+use Rattle.cv_syntax_trees.specs.declared.sites.sort.Sort.{Sort}
+use Rattle.cv_syntax_trees.specs.declared.sites.sort.Sort.TheVariants.{OfType, BelowParameter}
+use Rattle.cv_syntax_trees.specs.sites.Sites.{Variable, first_site}
 use Rattle.cv_query_form.specs.Rules.{IsLeftEvent, SomeIsMarked, AreMarkedAlike, HasValues, MayBeAsked}
 use Rattle.cv_query_form.specs.Tests.{is_left_event, some_is_marked, are_marked_alike, is_of_type, has_values, passes, may_be_asked}
 use Rattle.cv_query_form.proofs.Counts.{few_found, few_tested}

@@ -21,7 +21,7 @@ use Rattle.cv_syntax.proofs.Trees.{tree_at_None, empty_at}
 use Rattle.cv_meaning.specs.Binders.{bound_names}
 use Rattle.cv_meaning.specs.Correspondences.{is_once}
 use Rattle.cv_directory.specs.Live.{IsLive}
-use Rattle.cv_directory_sorts.specs.Sites.{SitesView, sites_of}
+use Rattle.cv_syntax_trees.specs.sites.Sites.{SitesView, sites_of}
 use Rattle.cv_query_form.specs.Held.{has_parts, valued, cell_variable, event_passes, events_pass, correspondence_passes, secret_passes, node_passes}
 use Rattle.cv_meaning.specs.Queries.{queries_in}
 use Rattle.cv_query_form.specs.Tests.{without, are_distinct, is_left_event, sides_pass, some_is_marked, passes, may_be_asked, first_refused}

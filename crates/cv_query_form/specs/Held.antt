@@ -6,7 +6,7 @@ use Rattle.cv_syntax_trees.specs.Tree.{Tree, Empty, Node}
 use Rattle.cv_syntax_trees.specs.Children.{is_empty}
 use Rattle.cv_syntax.specs.NameSets.{is_one_of}
 use Rattle.cv_meaning.specs.Binders.{bound_names}
-use Rattle.cv_directory_sorts.specs.Sites.{SitesView, Variable}
+use Rattle.cv_syntax_trees.specs.sites.Sites.{SitesView, Variable}
 use Rattle.cv_query_form.specs.Tests.{are_distinct, is_left_event, is_of_type, sides_pass}
 
 -- which names have values, by a table of sites

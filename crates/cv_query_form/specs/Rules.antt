@@ -5,8 +5,8 @@ use Rattle.cv_syntax_trees.specs.declared.head.Head.TheVariants.{Leaf, Cons, Que
 use Rattle.cv_syntax_trees.specs.Tree.{Tree, Empty, Node, lone, chain}
 use Rattle.cv_meaning.specs.Binders.{bound_names}
 use Rattle.cv_meaning.specs.Correspondences.{alternatives_of, is_once}
-use Rattle.cv_directory_sorts.specs.declared.sort.Sort.TheVariants.{OfType}
-use Rattle.cv_directory_sorts.specs.Sites.{first_site}
+use Rattle.cv_syntax_trees.specs.declared.sites.sort.Sort.TheVariants.{OfType}
+use Rattle.cv_syntax_trees.specs.sites.Sites.{first_site}
 
 -- The arguments of a left event are distinct variables of the query.
 

@@ -3,7 +3,7 @@ ghost use Rattle.cv_directory.specs.Tables.{seen};
 ghost use Rattle.cv_query_form.specs.Held.{valued};
 
 use cv_directory::Directory;
-use cv_directory_sorts::Sort;
+use cv_syntax_trees::sites::Sort;
 
 /// Whether a name is a variable with values of a type.
 pub fn has_values(sites: &Directory, x: u32) -> bool

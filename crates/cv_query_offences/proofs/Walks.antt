@@ -1,7 +1,7 @@
 -- Walks over a game that look for a first place.
 use Rattle.std.proofs.Common.{◌≡◌, ℕ, Bool, true, false, cond, ◌&&◌, ◌||◌, not, List, [], ◌∷◌, Option, Some, None, is_some, refl, sym, ap, ap₂, ◌∙◌}
 use Rattle.std.specs.List.{list_any}
-use Rattle.cv_lists.specs.Options.{first_of}
+use Rattle.cv_syntax_trees.specs.lists.Options.{first_of}
 use Rattle.cv_syntax_trees.specs.declared.head.Head.{Head}
 use Rattle.cv_syntax_trees.specs.declared.head.Head.TheVariants.{Leaf, New, Read}
 use Rattle.cv_syntax_trees.specs.Tree.{Tree, Empty, Node, first_place, second_place}
@@ -11,7 +11,7 @@ use Rattle.cv_scope_rules.specs.Made.{made_by}
 use Rattle.cv_scope_rules.specs.Sites.{Variable}
 use Rattle.cv_scene.specs.Scenes.{Scene, has_some_new, head_reads, is_new_head, is_queried}
 use Rattle.cv_query_certificates.specs.Secrets.{first_definition_but, first_other_read, is_cell, is_choice_of, is_let_of, is_none_of_them, is_source, reads_value}
-use Rattle.cv_lists.proofs.Options.{first_of_none}
+use Rattle.cv_syntax_trees.proofs.lists.Options.{first_of_none}
 
 -- the place is here, in the first child, or not yet found
 

@@ -1,7 +1,7 @@
 -- Counts of verdicts, one by one.
 use Rattle.std.proofs.Common.{◌≡◌, ℕ, zero, suc, ◌+◌, ◌<◌, ◌≤◌, List, [], ◌∷◌, length, drop, get_or, ap, refl, sym, ◌∙◌, arith}
 use Rattle.std.proofs.lemmas.List.{drop_all}
-use Rattle.cv_lists.proofs.Numbers.{suc_is_plus_one}
+use Rattle.cv_syntax_trees.proofs.lists.Numbers.{suc_is_plus_one}
 use Rattle.cv_report.specs.declared.report.Verdict.{Verdict}
 use Rattle.cv_report.specs.Printed.{counted, counted_with}
 

@@ -6,7 +6,7 @@ use Rattle.cv_pool.specs.KindTree.{KindTree}
 use Rattle.cv_report.specs.declared.report.Entry.{Entry}
 use Rattle.cv_report.specs.declared.report.Verdict.{Verdict}
 use Rattle.cv_report.specs.Text.{entry_text, games_after, trail_text, verdict_text, verdicts_text}
-use Rattle.cv_lists.proofs.Numbers.{suc_is_plus_one}
+use Rattle.cv_syntax_trees.proofs.lists.Numbers.{suc_is_plus_one}
 
 pub extended : {T E : Type 0} (r : Result T E) (old more new total : List ℕ) → new ≡ cond (is_ok r) (old ++ more) old → old ++ more ≡ total → OnOk r (new ≡ total)
 extended (Ok u) old more new total i e = i ∙ e

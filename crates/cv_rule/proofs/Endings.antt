@@ -6,7 +6,7 @@ use Rattle.cv_scene.specs.lines.Ends.{ends_with, is_end, same_statement, same_st
 use Rattle.cv_scene.specs.lines.Lines.{Statement, Holds, IsDefined, lines_of, statements}
 use Rattle.cv_scene.specs.lines.Targets.{target}
 use Rattle.cv_derive_lines.specs.Lasts.{last_behind, last_of}
-use Rattle.cv_lists.proofs.Tests.{and_true}
+use Rattle.cv_syntax_trees.proofs.lists.Tests.{and_true}
 
 abbrev says : Option Statement → Statement → Bool
 says None u = false

@@ -18,7 +18,7 @@ use Rattle.cv_steps.specs.Rows.{let_row, new_row, prune_row, prune_row_by, renam
 use Rattle.cv_steps.specs.Steps.{Leads, Row, Step, Zero}
 use Rattle.cv_steps.specs.Unletting.{Assignment, is_listed, only_assignment, without_assignment}
 use Rattle.cv_edit_places.specs.Plans.{failed, failing, failure_of}
-use Rattle.cv_lists.proofs.Tests.{and_first}
+use Rattle.cv_syntax_trees.proofs.lists.Tests.{and_first}
 
 -- rows of which no condition fails
 

@@ -1,7 +1,7 @@
 -- Conditions in their order.
 use Rattle.std.proofs.Common.{◌≡◌, ℕ, Bool, true, false, not, if◌then◌else◌, Option, Some, None, refl, sym, ap, ◌∙◌}
 use Rattle.std.specs.Prelude.{◌&&◌, option_map}
-use Rattle.cv_directory_sorts.specs.declared.sort.Sort.{Sort}
+use Rattle.cv_syntax_trees.specs.declared.sites.sort.Sort.{Sort}
 use Rattle.cv_scope_rules.specs.Phrases as grammar
 use Rattle.cv_syntax_trees.specs.Tree.{Tree}
 use Rattle.cv_scene.specs.lines.Ends.{ends_with}

@@ -1,6 +1,6 @@
 ghost use Rattle.std.specs.Prelude.{◌≡◌, ◌<◌, ◌^◌, ◌&&◌, IfOk, Some, length};
 ghost use Rattle.cv_pool.specs.Nodes.{ChildBelow};
-ghost use Rattle.cv_directory_sorts.specs.Sites.{sites_of};
+ghost use Rattle.cv_syntax_trees.specs.sites.Sites.{sites_of};
 ghost use Rattle.cv_syntax_trees.specs.Tree.{size};
 ghost use Rattle.cv_syntax.specs.PoolTrees.{tree_at};
 ghost use Rattle.cv_scope_rules.specs.typing.Signature as signature;
@@ -11,10 +11,10 @@ ghost use Rattle.cv_scene.specs.Terms as terms;
 ghost use Rattle.cv_steps.specs.Rewriting as rewriting;
 ghost use Rattle.cv_scene_view.specs.Kept.{scene_of};
 
-use cv_directory_sorts::Sort;
 use cv_edit_places::has_term_at;
 use cv_scene_view::indices_at;
 use cv_syntax::{NodeId, Pool, Work};
+use cv_syntax_trees::sites::Sort;
 use cv_typing::{Arrays, sort_of_term};
 use std::alloc::{AllocError, Global};
 

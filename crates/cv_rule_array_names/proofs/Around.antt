@@ -5,7 +5,7 @@ use Rattle.std.specs.List.{AllByRecursion}
 use Rattle.cv_syntax_trees.specs.declared.head.Head.{Head}
 use Rattle.cv_syntax_trees.specs.declared.head.Head.TheVariants.{Branch, Leaf, Read}
 use Rattle.cv_syntax_trees.specs.Tree.{Tree, Empty, Node, first, first_place, second_place}
-use Rattle.cv_directory_sorts.specs.Sites.{first_of}
+use Rattle.cv_syntax_trees.specs.sites.Sites.{first_of}
 use Rattle.cv_meaning.specs.Interpretation.{Setting}
 use Rattle.cv_meaning.specs.Memory.{Happened, Indices, Store, tuple}
 use Rattle.cv_meaning.specs.Terms.{leaf_value, leaf_value_from, value, values}

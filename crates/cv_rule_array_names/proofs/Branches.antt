@@ -2,7 +2,7 @@
 use Rattle.std.proofs.Common.{◌≡◌, ℕ, ◌==◌, Bool, true, false, cond, List, [], ◌∷◌, ◌++◌, Option, Some, None, is_some, refl, sym, ap, subst, ◌∙◌, eq-eqb, eqb-true}
 use Rattle.std.proofs.lemmas.Bool.{both_ways}
 use Rattle.std.specs.List.{AllByRecursion}
-use Rattle.cv_lists.proofs.Each.{AllByRecursion_append, AllByRecursion_weaker}
+use Rattle.cv_syntax_trees.proofs.lists.Each.{AllByRecursion_append, AllByRecursion_weaker}
 use Rattle.cv_syntax_trees.specs.declared.head.Head.TheVariants.{Branch, Cons, Leaf, Read}
 use Rattle.cv_syntax_trees.specs.Tree.{Tree, Empty, Node, second}
 use Rattle.cv_meaning.specs.Interpretation.{Setting}

@@ -10,7 +10,7 @@ use Rattle.cv_meaning.specs.Interpretation.{Setting}
 use Rattle.cv_meaning.specs.Memory.{Indices, Store}
 use Rattle.cv_meaning.specs.Terms.{is_one, value, values}
 use Rattle.cv_meaning.specs.Candidates.{are_assigned, is_assigned, is_candidate}
-use Rattle.cv_lists.proofs.Each.{AllByRecursion_weaker}
+use Rattle.cv_syntax_trees.proofs.lists.Each.{AllByRecursion_weaker}
 use Rattle.cv_edit_names.specs.Cells.{are_mixed, called_head, cells_in, first_unnamed, is_cell_of, name_of, with_names}
 use Rattle.cv_rule_array_names.proofs.Stores.{AreSplit, Free, free_first, free_second, head_free, is_name}
 use Rattle.cv_rule_array_names.proofs.Values.{AreVariables, IsOwned, Unread, name_holds, tuple_in, unread_first, unread_head, unread_second, value_named, values_named}

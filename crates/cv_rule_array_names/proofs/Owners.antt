@@ -2,7 +2,7 @@
 use Rattle.std.proofs.Common.{◌≡◌, ℕ, ◌==◌, ◌&&◌, Bool, true, false, cond, List, [], ◌∷◌, Option, refl, sym, ap, ap₂, ◌∙◌, eq-eqb, eqb-true}
 use Rattle.std.proofs.lemmas.Bool.{and_parts, both_ways, or_left, or_parts}
 use Rattle.std.specs.List.{AllByRecursion}
-use Rattle.cv_lists.proofs.Each.{AllByRecursion_both}
+use Rattle.cv_syntax_trees.proofs.lists.Each.{AllByRecursion_both}
 use Rattle.cv_syntax_trees.specs.Declarations.{Declaration}
 use Rattle.cv_syntax_trees.specs.Tree.{Tree, Empty, Node}
 use Rattle.cv_meaning.specs.Experiments.{Experiment, coins_on, holds_on, mode_of, visits_of_run}

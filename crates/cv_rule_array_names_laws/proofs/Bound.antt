@@ -4,7 +4,7 @@ use Rattle.std.proofs.lemmas.Bool.{and_parts, both_ways}
 use Rattle.cv_syntax_trees.specs.declared.head.Head.{Head}
 use Rattle.cv_syntax_trees.specs.declared.head.Head.TheVariants.{Binder, Branch, Cons, Find, In, Leaf, Name, Par, Read, Repl}
 use Rattle.cv_syntax_trees.specs.Tree.{Tree, Empty, Node, first_place, second_place}
-use Rattle.cv_directory_sorts.specs.Sites.{index_here}
+use Rattle.cv_syntax_trees.specs.sites.Sites.{index_here}
 use Rattle.cv_scope_rules.specs.Phrases.{Phrase, Arm as ArmPhrase, Binders, Indices, Inputs, Nil, Pattern, Body, Guards, is_phrase, parts}
 use Rattle.cv_steps.specs.Renaming.{renamed_head}
 use Rattle.cv_steps.proofs.Flat.{open_phrase}

@@ -4,7 +4,7 @@ use Rattle.std.proofs.Common.{◌≡◌, ℕ, zero, suc, ◌<◌, ◌*◌, ◌==
 use Rattle.std.proofs.lemmas.Bool.{both_ways}
 use Rattle.std.proofs.Math.Nat.{mul-zero, zero-mul}
 use Rattle.std.specs.List.{AllByRecursion, IsDistinct}
-use Rattle.cv_lists.specs.Options.{first_of}
+use Rattle.cv_syntax_trees.specs.lists.Options.{first_of}
 use Rattle.cv_syntax_trees.specs.Declarations.{Declaration}
 use Rattle.cv_syntax_trees.specs.Tree.{Tree}
 use Rattle.cv_meaning.specs.Cells.{cells, coin_cells, test_cells, at_each_copy, cells_at, without_repeats}
@@ -19,11 +19,10 @@ use Rattle.cv_meaning_laws.proofs.adequacy.Sorted.{all_has}
 use Rattle.cv_meaning_laws.specs.adequacy.Typed.{Context}
 use Rattle.cv_meaning_chances.proofs.LikeTests.{same_trans}
 use Rattle.cv_meaning_chances.proofs.Within.{count_at_most, total_above}
-use Rattle.cv_meaning_chances.proofs.unread.CellSizes.{is_in_size, same_by_sizes, size_each, size_once, undrawn}
+use Rattle.cv_meaning_chances.proofs.unread.CellSizes.{is_in_size, same_by_sizes, size_each, size_once, undrawn, first_none, size_append}
 use Rattle.cv_meaning_chances.specs.Tests.{HasDistinctCells, HasValues, Ignores, IgnoresOthers}
 use Rattle.cv_meaning_chances.specs.unread.Sizes.{GiveSizesFor, size_in}
 use Rattle.cv_meaning_runs.specs.Listed.{has_no_calls}
-use Rattle.cv_steps.proofs.CellSizes.{first_none, size_append}
 use Rattle.cv_steps.proofs.Sizes.{IsSized, NamesSorts, all_cells, all_sizes}
 use Rattle.cv_steps.specs.Changes.{only}
 use Rattle.cv_steps_laws.proofs.Unnamed.{unnamed_undrawn}

@@ -5,8 +5,8 @@ use Rattle.cv_syntax_trees.specs.declared.head.Head.TheVariants.{Eq}
 use Rattle.cv_syntax_trees.specs.Builders.{leaf}
 use Rattle.cv_syntax_trees.specs.Tree.{Tree, Node, size, depth, subtree, same_tree}
 use Rattle.cv_syntax.specs.faults.Walk.{first_fault}
-use Rattle.cv_directory_sorts.specs.Sites.{first_index, first_site, bound_sort, is_untyped_in}
-use Rattle.cv_directory_sorts.specs.Counting.{count}
+use Rattle.cv_syntax_trees.specs.sites.Sites.{first_index, first_site, bound_sort, is_untyped_in}
+use Rattle.cv_syntax_trees.specs.sites.Counting.{count}
 use Rattle.cv_scene.specs.lines.Truths.{yes}
 use Rattle.cv_scope_rules.specs.typing.Parts.{first_in}
 use Rattle.cv_scope_rules.specs.typing.Typing.{binders_differ}

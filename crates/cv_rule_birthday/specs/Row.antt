@@ -1,7 +1,7 @@
 -- The step `birthday`: comparisons of two cells of one array, whose values are all chosen at random, become comparisons of their indices.
 -- Blanchet, TDSC 2008, bounds by collisions how often they differ; the conditions and their order are this profile's own.
 use Rattle.std.specs.Prelude.{ℕ, List, [], Option, Some, None}
-use Rattle.cv_directory_sorts.specs.Sites.{Variable, first_site}
+use Rattle.cv_syntax_trees.specs.sites.Sites.{Variable, first_site}
 use Rattle.cv_scene.specs.Scenes.{Scene}
 use Rattle.cv_steps.specs.Rows.{unless, unless_at}
 use Rattle.cv_steps.specs.Steps.{Fails, Leads, Row, Step}

@@ -4,7 +4,7 @@ use Rattle.std.proofs.lemmas.Bool.{both_ways}
 use Rattle.cv_syntax_trees.specs.declared.head.Head.{Head}
 use Rattle.cv_syntax_trees.specs.declared.head.Head.TheVariants.{New}
 use Rattle.cv_syntax_trees.specs.Tree.{Tree, Empty, Node, first_place, second_place}
-use Rattle.cv_directory_sorts.specs.Sites.{first_of}
+use Rattle.cv_syntax_trees.specs.sites.Sites.{first_of}
 use Rattle.cv_scope_rules.specs.Made.{made_by}
 use Rattle.cv_scope_rules.specs.Sites.{Variable}
 use Rattle.cv_scene.specs.Scenes.{has_news_alone, is_new_head}

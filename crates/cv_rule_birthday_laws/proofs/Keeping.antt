@@ -1,11 +1,11 @@
 -- A game with comparisons of indices in place of those of cells has chances that differ by no more than that of two equal choices.
 use Rattle.std.proofs.Common.{◌≡◌, ℕ, Bool, true, false, List, [], Some, None, refl, sym, ◌∙◌}
 use Rattle.std.proofs.lemmas.Bool.{and_parts, or_left}
-use Rattle.cv_lists.proofs.Each.{AllByRecursion_weaker}
+use Rattle.cv_syntax_trees.proofs.lists.Each.{AllByRecursion_weaker}
 use Rattle.cv_syntax_trees.specs.Declarations.{Declaration}
 use Rattle.cv_syntax_trees.specs.Tree.{Tree}
-use Rattle.cv_directory_sorts.specs.declared.sort.Sort.TheVariants.{OfType}
-use Rattle.cv_directory_sorts.specs.Sites.{Variable as FirstSite, first_site}
+use Rattle.cv_syntax_trees.specs.declared.sites.sort.Sort.TheVariants.{OfType}
+use Rattle.cv_syntax_trees.specs.sites.Sites.{Variable as FirstSite, first_site}
 use Rattle.cv_meaning.specs.Advantage.{chance_of}
 use Rattle.cv_meaning.specs.Chances.{AtMost, distance}
 use Rattle.cv_meaning.specs.Experiments.{Experiment, mode_of, visits_of_run}

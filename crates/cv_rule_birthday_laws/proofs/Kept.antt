@@ -6,7 +6,7 @@ use Rattle.cv_syntax_trees.specs.declared.head.Head.{Head}
 use Rattle.cv_syntax_trees.specs.declared.head.Head.TheVariants.{And, Branch, Eq, In, Read, Yes}
 use Rattle.cv_syntax_trees.specs.Tree.{Tree, Empty, Node, first, first_place, second_place}
 use Rattle.cv_scene.specs.lines.Inferences.{equations_of}
-use Rattle.cv_directory_sorts.specs.Sites.{index_here}
+use Rattle.cv_syntax_trees.specs.sites.Sites.{index_here}
 use Rattle.cv_scope_rules.specs.Context.{items}
 use Rattle.cv_scope_rules.specs.Phrases.{Phrase, Arm, Binders, Body, Guards, Inputs, Nil, Pattern, Term, both_are, is_phrase, parts}
 use Rattle.cv_steps.specs.Rewriting.{by_parts, is_term, parts_of}

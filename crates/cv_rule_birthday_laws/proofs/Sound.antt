@@ -11,8 +11,8 @@ use Rattle.cv_meaning.specs.Satisfies.{Satisfies}
 use Rattle.cv_meaning_chances.specs.Fractions.{HasTapes}
 use Rattle.cv_meaning_chances.specs.values.Values.{HasValuesIn}
 use Rattle.cv_steps.specs.values.Values.{product_value}
-use Rattle.cv_directory_sorts.specs.declared.sort.Sort.TheVariants.{OfType}
-use Rattle.cv_directory_sorts.specs.Sites.{Variable as FirstSite, first_site}
+use Rattle.cv_syntax_trees.specs.declared.sites.sort.Sort.TheVariants.{OfType}
+use Rattle.cv_syntax_trees.specs.sites.Sites.{Variable as FirstSite, first_site}
 use Rattle.cv_scope_rules.specs.Phrases.{Inputs, IsWellFormed, is_phrase}
 use Rattle.cv_scope_runs.proofs.Standing.{root}
 use Rattle.cv_scope_rules.specs.typing.Parts.{IsTypedGame}
@@ -20,7 +20,7 @@ use Rattle.cv_scope_rules.specs.typing.Signature.{declaration_of}
 use Rattle.cv_typing_runs.specs.Games.{HasDeclaredSorts}
 use Rattle.cv_scene.specs.Scenes.{Scene, is_type_by, part_at}
 use Rattle.cv_scene.specs.Terms.{has_site, is_game}
-use Rattle.cv_costs.specs.Collisions.{declared_parameters, one_for_pairs}
+use Rattle.cv_costs.specs.Collisions.{declared_parameters, one_for_pairs, type_of}
 use Rattle.cv_costs.specs.Factors.{factors_of}
 use Rattle.cv_costs.proofs.Values.{with_value}
 use Rattle.cv_derive_laws.specs.stores.Costs.{CostsAtMost, bound_of}
@@ -38,7 +38,6 @@ use Rattle.cv_costs.proofs.wording.Places.{at_root}
 use Rattle.cv_rule_fresh.specs.collisions.Chances.{copies}
 use Rattle.cv_scene.specs.Large.{first_other_site, is_large, is_large_by}
 use Rattle.cv_rule_birthday.specs.Comparing.{compared, first_uncompared, is_comparison, is_one_of}
-use Rattle.cv_costs.specs.Collisions.{type_of}
 use Rattle.cv_rule_birthday.specs.Row.{birthday_row, birthday_row_by, birthday_step}
 use Rattle.cv_rule_birthday_laws.specs.chosen.Drawn.{pairs_over}
 use Rattle.cv_rule_birthday_laws.proofs.Conditions.{all_compared, chosen_alone}

@@ -4,8 +4,8 @@ ghost use Rattle.std.specs.Prelude.{◌≡◌, ℕ, Contains, List, Some, [], fa
 ghost use Rattle.std.specs.List.{All, AllByRecursion};
 ghost use Rattle.cv_syntax_trees.specs.Declarations.{Declaration};
 ghost use Rattle.cv_syntax_trees.specs.Tree.{Tree};
-ghost use Rattle.cv_directory_sorts.specs.declared.sort.Sort.TheVariants.{OfType};
-ghost use Rattle.cv_directory_sorts.specs.Sites.{Variable, first_site};
+ghost use Rattle.cv_syntax_trees.specs.declared.sites.sort.Sort.TheVariants.{OfType};
+ghost use Rattle.cv_syntax_trees.specs.sites.Sites.{Variable, first_site};
 ghost use Rattle.cv_meaning.specs.Cells.{cells};
 ghost use Rattle.cv_meaning.specs.Chances.{AtMost, chance};
 ghost use Rattle.cv_meaning.specs.Experiments.{run, visits_of_run};

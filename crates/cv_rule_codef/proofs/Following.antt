@@ -24,7 +24,7 @@ use Rattle.cv_scope_rules.specs.Sites.{Variable}
 use Rattle.cv_scope_runs.proofs.Contexts.{put_here}
 use Rattle.cv_scope_runs.proofs.FreshRuns.{bound_made, put_made}
 use Rattle.cv_scope_runs.proofs.TermsLater.{some_of}
-use Rattle.cv_lists.proofs.Each.{AllByRecursion_append, AllByRecursion_weaker}
+use Rattle.cv_syntax_trees.proofs.lists.Each.{AllByRecursion_append, AllByRecursion_weaker}
 use Rattle.cv_rule_codef.specs.Adjacent.{begins_with, following}
 use Rattle.cv_rule_codef.specs.Standing.{AssignsAfter, AssignsAfterAt}
 use Rattle.cv_rule_codef.specs.kept.Kept.{HasIt, IsKept, Keeps}

@@ -34,7 +34,7 @@ use Rattle.cv_steps.specs.Steps.{Cost, Leads, Zero}
 use Rattle.cv_steps.proofs.Comes.{output_comes}
 use Rattle.cv_steps.proofs.Flat.{open_phrase, terms_still}
 use Rattle.cv_steps.proofs.Rows.{leads_same, unless_leads}
-use Rattle.cv_lists.proofs.Each.{AllByRecursion_always}
+use Rattle.cv_syntax_trees.proofs.lists.Each.{AllByRecursion_always}
 use Rattle.cv_rule_codef.specs.Lists.{has_cell, lists, relisted, with_cell, with_list, without_cell}
 use Rattle.cv_rule_codef.specs.Row.{are_codefined, are_related, codef_row, may_relist, related_by, stands_codef}
 use Rattle.cv_rule_codef.specs.Standing.{AssignsAfter}

@@ -7,7 +7,7 @@ use Rattle.cv_meaning.specs.Interpretation.{setting_of}
 use Rattle.cv_meaning.specs.Runs.{Mode}
 use Rattle.cv_meaning_chances.specs.values.Values.{HasValuesIn}
 use Rattle.cv_meaning_runs.specs.Replacement.{Process}
-use Rattle.cv_directory_sorts.specs.Sites.{index_here}
+use Rattle.cv_syntax_trees.specs.sites.Sites.{index_here}
 use Rattle.cv_scope_rules.specs.Phrases.{Cells, Inputs, OneCell, Term, is_phrase}
 use Rattle.cv_scene.specs.Scenes.{Scene, part_at}
 use Rattle.cv_derive_laws.proofs.stores.Costs.{free_taped, kept_costs}

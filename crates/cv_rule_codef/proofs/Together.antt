@@ -16,7 +16,7 @@ use Rattle.cv_scope_runs.proofs.FactsRuns.{well_game}
 use Rattle.cv_scope_runs.proofs.Games.{Game}
 use Rattle.cv_scope_runs.proofs.Plain.{game_context}
 use Rattle.cv_scope_runs.proofs.ServeRuns.{VisitHolds, game_holds}
-use Rattle.cv_lists.proofs.Each.{AllByRecursion_both, AllByRecursion_weaker}
+use Rattle.cv_syntax_trees.proofs.lists.Each.{AllByRecursion_both, AllByRecursion_weaker}
 use Rattle.cv_rule_codef.specs.Adjacent.{are_adjacent, are_joined, is_above, sites, stands_above}
 use Rattle.cv_rule_codef.specs.Row.{are_related}
 use Rattle.cv_rule_codef.specs.Standing.{AreAssignedTogether, AssignsAfter, AssignsAfterAt}

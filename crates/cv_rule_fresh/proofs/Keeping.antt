@@ -64,8 +64,8 @@ use Rattle.cv_rule_fresh.proofs.Missed.{DrawsAnother, Misses, MissesThere}
 use Rattle.cv_rule_fresh.proofs.Reworded.{Holds, game_reworded}
 use Rattle.cv_rule_fresh.proofs.Runs.{game_misses}
 use Rattle.cv_rule_fresh.proofs.Standing.{StandsNew, There, new_of, stands_choice, there}
-use Rattle.cv_lists.proofs.Tests.{equals_comm, differs}
-use Rattle.cv_lists.proofs.Each.{AllByRecursion_both}
+use Rattle.cv_syntax_trees.proofs.lists.Tests.{equals_comm, differs}
+use Rattle.cv_syntax_trees.proofs.lists.Each.{AllByRecursion_both}
 
 -- chances without tapes are at no distance
 pub nothing_apart : (p q r : Chance) → p.all ≡ 0 → q.all ≡ 0 → AtMost (distance p q) r

@@ -20,7 +20,7 @@ use Rattle.cv_meaning_laws.proofs.Counts.{same_cell_exact}
 use Rattle.cv_meaning_laws.proofs.Listed.{Has, Sized, Within, has_flat_map, has_left, has_right, is_in_without_repeats}
 use Rattle.cv_meaning_laws.proofs.Lists.{each_flat_map}
 use Rattle.cv_meaning_chances.proofs.CellLists.{contains_here, contains_later}
-use Rattle.cv_directory_sorts.specs.Sites.{Variable, first_site}
+use Rattle.cv_syntax_trees.specs.sites.Sites.{Variable, first_site}
 use Rattle.cv_typing_runs.specs.Games.{context_of, variable_of_meaning}
 use Rattle.cv_scope_rules.specs.Context.{Context, replications_below}
 use Rattle.cv_scope_rules.specs.Phrases.{Phrase, Nil, is_oracle_phrase, oracle_parts}
@@ -33,7 +33,7 @@ use Rattle.cv_scene.specs.Terms.{has_site}
 use Rattle.cv_rule_fresh.specs.collisions.Chances.{copies}
 use Rattle.cv_meaning_laws.proofs.adequacy.Lists.{has_below}
 use Rattle.cv_scope_runs.proofs.KeysListed.{replicated_nil}
-use Rattle.cv_lists.proofs.Each.{AllByRecursion_append}
+use Rattle.cv_syntax_trees.proofs.lists.Each.{AllByRecursion_append}
 
 -- tuples below bounds
 

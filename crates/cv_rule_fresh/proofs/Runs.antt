@@ -25,7 +25,7 @@ use Rattle.cv_rule_fresh.specs.collisions.Choices.{Choice}
 use Rattle.cv_costs.specs.names.Reach.{is_in_scope}
 use Rattle.cv_rule_fresh.proofs.Missed.{DrawsAnother, MissesThere, is_inner, serve_misses}
 use Rattle.cv_scope_runs.proofs.FreshRuns.{pairwise_left, pairwise_right}
-use Rattle.cv_lists.proofs.Each.{AllByRecursion_append, AllByRecursion_left, AllByRecursion_right}
+use Rattle.cv_syntax_trees.proofs.lists.Each.{AllByRecursion_append, AllByRecursion_left, AllByRecursion_right}
 
 -- copies of inputs
 

@@ -4,7 +4,7 @@ use Rattle.std.proofs.lemmas.Bool.{and_parts, both_ways, not-true, or_parts}
 use Rattle.cv_syntax_trees.specs.declared.head.Head.{Head}
 use Rattle.cv_syntax_trees.specs.declared.head.Head.TheVariants.{Binder, Branch, Call, Cons, Event, Find, If, Key, Let, New, Par}
 use Rattle.cv_syntax_trees.specs.Tree.{Tree, Empty, Node}
-use Rattle.cv_lists.specs.Options.{first_of}
+use Rattle.cv_syntax_trees.specs.lists.Options.{first_of}
 use Rattle.cv_meaning.specs.Tapes.{Cell, New_at, same_tuple}
 use Rattle.cv_meaning.specs.Interpretation.{Setting}
 use Rattle.cv_meaning.specs.Runs.{Adversary, Events, Mode, Random, Real}
@@ -13,10 +13,9 @@ use Rattle.cv_meaning.specs.Still.{head_is_still, is_still}
 use Rattle.cv_meaning_runs.specs.Replacement as runs
 use Rattle.cv_meaning_runs.specs.Replacement.{IsReplaced, here, in_branch, in_continuation, in_find, in_later_branch, in_list, in_parallel}
 use Rattle.cv_meaning_chances.specs.unread.Sizes.{size_in}
-use Rattle.cv_meaning_chances.proofs.unread.CellSizes.{size_once, still_size, size_each, still_cells, still_tests}
+use Rattle.cv_meaning_chances.proofs.unread.CellSizes.{size_once, still_size, size_each, still_cells, still_tests, size_append}
 use Rattle.cv_scope_rules.specs.Made.{is_bound}
 use Rattle.cv_scope_rules.specs.Phrases.{Arm, Binders, Body, Branches, Cells, Nil, Term, Terms, is_phrase}
-use Rattle.cv_steps.proofs.CellSizes.{size_append}
 use Rattle.cv_steps.proofs.Flat.{guarded_of, guards_of, nil_still, term_still, terms_still}
 use Rattle.cv_rule_move.specs.Moving.{defined, first_naming, first_naming_branch, has_bodies, in_bodies, in_branches}
 use Rattle.cv_rule_move.proofs.Parts.{assigned_of, branch_unnamed, branches_of, condition_of, drawn_of, else_of, not_here, then_of, told_of}

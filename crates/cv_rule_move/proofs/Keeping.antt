@@ -33,7 +33,7 @@ use Rattle.cv_rule_move.specs.Rows.{move_row, move_row_by}
 use Rattle.cv_rule_move.proofs.CellSizes.{MayMove, moved_sizes}
 use Rattle.cv_rule_move.proofs.Parts.{definition_parts, phrase_at}
 use Rattle.cv_rule_move.proofs.Serving.{Expected, definition_output, moved_alike}
-use Rattle.cv_lists.proofs.Each.{AllByRecursion_both}
+use Rattle.cv_syntax_trees.proofs.lists.Each.{AllByRecursion_both}
 
 -- a row that leads to a game
 

@@ -5,7 +5,7 @@ use Rattle.cv_syntax_trees.specs.declared.head.Head.{Head}
 use Rattle.cv_syntax_trees.specs.declared.head.Head.TheVariants.{Event, New, Let, If, Find, Branch, Cons}
 use Rattle.cv_syntax_trees.specs.Head.{weight}
 use Rattle.cv_syntax_trees.specs.Tree.{Tree, Empty, Node, second_place, size, subtree}
-use Rattle.cv_directory_sorts.specs.Sites.{first_of}
+use Rattle.cv_syntax_trees.specs.sites.Sites.{first_of}
 use Rattle.cv_scope_rules.specs.Made.{is_bound}
 use Rattle.cv_scope_rules.specs.Phrases.{Body, Branches, Else, Nil, Phrase, Term, Terms, Then, is_phrase}
 use Rattle.cv_scene.specs.Scenes.{first_reading}

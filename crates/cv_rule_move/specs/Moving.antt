@@ -2,7 +2,7 @@
 use Rattle.std.specs.Prelude.{ℕ, ◌+◌, Bool, true, false, if◌then◌else◌, Option, Some, None}
 use Rattle.cv_syntax_trees.specs.declared.head.Head.TheVariants.{Event, New, Let, If, Find, Branch, Cons}
 use Rattle.cv_syntax_trees.specs.Tree.{Tree, Empty, Node, first, second, first_place, second_place, size}
-use Rattle.cv_directory_sorts.specs.Sites.{first_of}
+use Rattle.cv_syntax_trees.specs.sites.Sites.{first_of}
 use Rattle.cv_meaning.specs.Still.{defines}
 use Rattle.cv_scope_rules.specs.Made.{is_bound}
 use Rattle.cv_scene.specs.Scenes.{first_reading}

@@ -6,7 +6,7 @@ use Rattle.cv_syntax_trees.specs.declared.head.Head.{Head}
 use Rattle.cv_syntax_trees.specs.declared.head.Head.TheVariants.{Branch, Call, In, Key, Leaf, Let, New, Read}
 use Rattle.cv_syntax_trees.specs.Head.{weight}
 use Rattle.cv_syntax_trees.specs.Tree.{Tree, Empty, Node, first_place, same_tree, second_place, size, subtree}
-use Rattle.cv_directory_sorts.specs.Sites.{first_of}
+use Rattle.cv_syntax_trees.specs.sites.Sites.{first_of}
 use Rattle.cv_path.proofs.Going.{subtree_behind, subtree_here, subtree_within}
 use Rattle.cv_scene.specs.Scenes.{or_empty, part_at}
 use Rattle.cv_costs.specs.names.Naming.{first_naming, is_between, names_one}

@@ -3,9 +3,9 @@ use Rattle.std.proofs.Common.{◌≡◌, ℕ, ◌+◌, ◌*◌, ◌≤◌, ◌&&
 use Rattle.std.specs.Prelude.{option_map}
 use Rattle.std.proofs.lemmas.Bool.{and_parts, both_ways}
 use Rattle.cv_syntax_trees.specs.declared.head.Head.TheVariants.{Apply, Binder, Branch, Cons, Find, Leaf, Read}
-use Rattle.cv_syntax_trees.specs.Tree.{Tree, Empty, Node, same_tree, size}
+use Rattle.cv_syntax_trees.specs.Tree.{Tree, Empty, Node, same_tree, size, subtree}
 use Rattle.cv_syntax_trees.proofs.Equality.{same_tree_exact}
-use Rattle.cv_directory_sorts.specs.declared.sort.Sort.TheVariants.{BelowParameter, OfType}
+use Rattle.cv_syntax_trees.specs.declared.sites.sort.Sort.TheVariants.{BelowParameter, OfType}
 use Rattle.cv_scope_rules.specs.Context.{Context, cell_of, cells_of, known_at}
 use Rattle.cv_scope_rules.specs.Phrases.{Term, is_phrase}
 use Rattle.cv_scope_rules.specs.Scope.{names_of}
@@ -18,7 +18,6 @@ use Rattle.cv_steps.specs.Rewriting.{sort_at}
 use Rattle.cv_costs.specs.names.Reach.{is_in_scope, is_in_scope_at, is_in_scope_by}
 use Rattle.cv_rule_pick.specs.Picking.{Arm, are_indices_at, are_terms_at, only_arm, term_of, with_terms}
 use Rattle.cv_rule_pick.proofs.Small.{cell_size, reached_small}
-use Rattle.cv_syntax_trees.specs.Tree.{subtree}
 
 -- the branch is a part of the game
 

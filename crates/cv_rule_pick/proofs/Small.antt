@@ -3,7 +3,7 @@ use Rattle.std.proofs.Common.{◌≡◌, ℕ, ◌+◌, ◌-◌, ◌<◌, ◌≤�
 use Rattle.std.proofs.lemmas.Bool.{both_ways, or_cases}
 use Rattle.std.specs.List.{AllByRecursion, list_any}
 use Rattle.std.specs.Prelude.{IfSome}
-use Rattle.cv_lists.proofs.Each.{AllByRecursion_append}
+use Rattle.cv_syntax_trees.proofs.lists.Each.{AllByRecursion_append}
 use Rattle.cv_syntax_trees.specs.declared.head.Head.{Head}
 use Rattle.cv_syntax_trees.specs.declared.head.Head.TheVariants.{Binder, Branch, Call, Cons, In, Key, Let, New}
 use Rattle.cv_syntax_trees.specs.Head.{weight}

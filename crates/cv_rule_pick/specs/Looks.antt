@@ -9,7 +9,7 @@ use Rattle.cv_syntax_trees.specs.declared.head.Head.TheVariants.{Branch, Cons}
 use Rattle.cv_syntax_trees.specs.Tree.{Tree, Empty, Node, first_place, same_tree, second_place}
 use Rattle.cv_syntax.specs.PoolTrees.{tree_at}
 use Rattle.cv_syntax.specs.declared.open.Opened.{Opened}
-use Rattle.cv_directory_sorts.specs.Sites.{first_of}
+use Rattle.cv_syntax_trees.specs.sites.Sites.{first_of}
 use Rattle.cv_scope_rules.specs.Context.{cells_of}
 use Rattle.cv_scene.specs.lines.Lines.{count, lines_of}
 use Rattle.cv_costs.specs.names.Naming.{is_between, names_one}

@@ -4,8 +4,8 @@ ghost use Rattle.cv_syntax_trees.specs.Tree.{size};
 ghost use Rattle.cv_syntax.specs.Declarations.{declarations};
 ghost use Rattle.cv_syntax.specs.PoolTrees.{tree_at};
 ghost use Rattle.cv_directory.specs.Live.{IsLive};
-ghost use Rattle.cv_directory_sorts.specs.Sites.{sites_of};
-ghost use Rattle.cv_directory_sorts.specs.declared.sort.Sort.TheVariants.{BelowParameter};
+ghost use Rattle.cv_syntax_trees.specs.sites.Sites.{sites_of};
+ghost use Rattle.cv_syntax_trees.specs.declared.sites.sort.Sort.TheVariants.{BelowParameter};
 ghost use Rattle.cv_scope.specs.Held.{names_held};
 ghost use Rattle.cv_scope_rules.specs.Scope.{names_of};
 ghost use Rattle.cv_typing.specs.Tables.{arrays_of};
@@ -18,11 +18,11 @@ ghost use Rattle.cv_rule_pick.specs.Picking as picking;
 
 use crate::scope::is_in_scope;
 use crate::targets::Given;
-use cv_directory_sorts::Sort;
 use cv_scene_view::{indices_at, is_term_at};
 use cv_scope::NameKinds;
 use cv_syntax::children::is_empty;
 use cv_syntax::{Head, NodeId, Work, read_node};
+use cv_syntax_trees::sites::Sort;
 use cv_typing::{Arrays, sort_of_term};
 use std::alloc::{AllocError, Global};
 

@@ -6,7 +6,7 @@ ghost use Rattle.cv_syntax.specs.PoolTrees.{tree_at};
 ghost use Rattle.cv_directory.specs.Definitions.{entries_of, large_in};
 ghost use Rattle.cv_directory.specs.Live.{IsLive};
 ghost use Rattle.cv_directory.specs.Tables.{entries_in};
-ghost use Rattle.cv_directory_sorts.specs.Sites.{sites_of};
+ghost use Rattle.cv_syntax_trees.specs.sites.Sites.{sites_of};
 ghost use Rattle.cv_scene.specs.lines.Lines as lines;
 ghost use Rattle.cv_scene.specs.lines.Lines.{lines_of};
 ghost use Rattle.cv_typing.specs.Tables.{arrays_of, directory_in};

@@ -10,15 +10,8 @@ use Rattle.cv_scope_runs.specs.Promises.{AreIndicesOf}
 use Rattle.cv_scope_runs.specs.Reads.{IsKept}
 use Rattle.cv_scope_runs.proofs.Contexts.{IsFound, Matches, constant_none, variable_none}
 use Rattle.cv_scope_runs.proofs.TermsLater.{Extends}
-use Rattle.cv_lists.proofs.Each.{AllByRecursion_left}
-
-found_first : (a b : Indices) (x v : ℕ) → found_in a x ≡ Some v → found_in (a ++ b) x ≡ Some v
-found_first [] b x v e = absurd (cc)
-found_first (p ∷ a) b x v e = go (p.0 == x) e (found_first a b x v)
-  where
-    go : (c : Bool) → cond c (Some p.1) (found_in a x) ≡ Some v → (found_in a x ≡ Some v → found_in (a ++ b) x ≡ Some v) → cond c (Some p.1) (found_in (a ++ b) x) ≡ Some v
-    go true e k = e
-    go false e k = k e
+use Rattle.cv_derive_laws.proofs.reached.Copies.{found_first}
+use Rattle.cv_syntax_trees.proofs.lists.Each.{AllByRecursion_left}
 
 -- copies of one place with one tuple
 pub same_copies : (g : Setting) (a b : Indices) (rs : List (ℕ × ℕ)) → AreIndicesOf g a rs → AreIndicesOf g b rs → tuple a ≡ tuple b → a ≡ b

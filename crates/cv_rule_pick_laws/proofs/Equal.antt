@@ -45,7 +45,7 @@ use Rattle.cv_rule_pick_laws.proofs.Picks as picks
 use Rattle.cv_rule_pick_laws.proofs.Picks.{AllTerms, IsPick, guards_tree, oracle_of, terms_both}
 use Rattle.cv_rule_pick_laws.proofs.Standing.{IsBelow, among_right}
 use Rattle.cv_rule_pick_laws.proofs.Terms.{AllBoth}
-use Rattle.cv_lists.proofs.Each.{AllByRecursion_left, AllByRecursion_right, AllByRecursion_weaker}
+use Rattle.cv_syntax_trees.proofs.lists.Each.{AllByRecursion_left, AllByRecursion_right, AllByRecursion_weaker}
 
 -- what holds of each visit of a run of the game that ends with this memory
 pub record IsKnown (s : Scene) (i : Interpretation) (ready : IsReady s.declarations s.game) (last : Memory) (v : Visit) : Type 0 where

@@ -73,7 +73,7 @@ use Rattle.cv_rule_pick_laws.proofs.Settled.{holds_settled}
 use Rattle.cv_rule_pick_laws.proofs.Standing.{below_same}
 use Rattle.cv_rule_pick_laws.proofs.Takes.{takes}
 use Rattle.cv_rule_pick_laws.proofs.Terms.{AllBoth, reads, with_node}
-use Rattle.cv_lists.proofs.Tests.{and_false, differs}
+use Rattle.cv_syntax_trees.proofs.lists.Tests.{and_false, differs}
 
 -- Where an experiment holds alike in two games on each tape that is counted for the first, and the cells of the second are those of
 -- another one, which are some of the first, its chance is one.

@@ -14,7 +14,7 @@ use Rattle.cv_meaning.specs.Experiments.{coins_on, run, visits_of_run}
 use Rattle.cv_scope_rules.specs.Made.{made_by}
 use Rattle.cv_scope_rules.specs.Sites.{Variable}
 use Rattle.cv_scope_runs.proofs.FreshRuns.{bound_made, put_made}
-use Rattle.cv_lists.proofs.Each.{AllByRecursion_left, AllByRecursion_right}
+use Rattle.cv_syntax_trees.proofs.lists.Each.{AllByRecursion_left, AllByRecursion_right}
 
 module _ (g : Setting) (t : Tape) (V : Visit → Type 0) where
   -- a construct that assigns the cell, where it and all that its service goes on to is such a visit

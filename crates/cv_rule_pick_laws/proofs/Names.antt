@@ -9,7 +9,7 @@ use Rattle.cv_syntax_trees.specs.declared.head.Head.TheVariants.{Repl, In, New, 
 use Rattle.cv_syntax_trees.specs.Head.{weight}
 use Rattle.cv_syntax_trees.specs.Tree.{Tree, Empty, Node, first_place, head_reads_only, reads_only, same_tree, second, second_place}
 use Rattle.cv_syntax_trees.proofs.Equality.{same_tree_exact}
-use Rattle.cv_directory_sorts.specs.Sites.{first_of}
+use Rattle.cv_syntax_trees.specs.sites.Sites.{first_of}
 use Rattle.cv_meaning.specs.Interpretation.{Setting}
 use Rattle.cv_meaning_chances.specs.unread.Dropping.{reads_none}
 use Rattle.cv_scope_rules.specs.Context.{Context, replications_below}

@@ -6,7 +6,7 @@ use Rattle.cv_syntax.specs.Layouts.{IsSyntax}
 use Rattle.cv_syntax_trees.specs.declared.head.Head.TheVariants as head
 use Rattle.cv_syntax_trees.specs.declared.head.Head.TheVariants.{Binder, Branch, Cons, Find}
 use Rattle.cv_syntax_trees.specs.Tree.{Tree, Empty, Node, bound_names, first_place, second_place}
-use Rattle.cv_directory_sorts.specs.declared.sort.Sort.TheVariants.{BelowParameter}
+use Rattle.cv_syntax_trees.specs.declared.sites.sort.Sort.TheVariants.{BelowParameter}
 use Rattle.cv_meaning.specs.Interpretation.{Interpretation, Setting, setting_of}
 use Rattle.cv_meaning.specs.Replaced.{is_output}
 use Rattle.cv_meaning_runs.specs.Replacement.{IsReplaced, Process}
@@ -46,7 +46,7 @@ use Rattle.cv_rule_pick.specs.Row.{first_other, pick_row, pick_row_by}
 use Rattle.cv_rule_pick_laws.proofs.Names.{ArePaired, above_none, neither, no_index, not_listed, scope_unread}
 use Rattle.cv_rule_pick_laws.proofs.Standing.{IsPlace, find_body, stands_old}
 use Rattle.cv_rule_pick_laws.proofs.Terms.{AllBoth, IsRead, cells_read, none_other}
-use Rattle.cv_lists.proofs.Each.{AllByRecursion_weaker}
+use Rattle.cv_syntax_trees.proofs.lists.Each.{AllByRecursion_weaker}
 
 -- a row that leads to a game: no condition of it fails
 

@@ -6,8 +6,8 @@ use Rattle.cv_syntax_trees.specs.declared.head.Head.{Head}
 use Rattle.cv_syntax_trees.specs.declared.head.Head.TheVariants.{Leaf}
 use Rattle.cv_syntax_trees.specs.Tree.{Tree, Empty, Node, chain, first, second, same_tree}
 use Rattle.cv_meaning.specs.contexts.Groups.{Function, Group}
-use Rattle.cv_directory_sorts.specs.declared.sort.Sort.TheVariants.{OfType}
-use Rattle.cv_directory_sorts.specs.Sites.{first_of}
+use Rattle.cv_syntax_trees.specs.declared.sites.sort.Sort.TheVariants.{OfType}
+use Rattle.cv_syntax_trees.specs.sites.Sites.{first_of}
 use Rattle.cv_scope_rules.specs.typing.Signature.{Signature, sort_of, variable_sort}
 use Rattle.cv_scope_rules.specs.typing.Parts.{nothing_above}
 use Rattle.cv_scene.specs.lines.Given.{with_given}

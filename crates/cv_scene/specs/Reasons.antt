@@ -8,7 +8,7 @@ use Rattle.cv_syntax_trees.specs.declared.head.Head.TheVariants.{Eq, And, Or, No
 use Rattle.cv_syntax_trees.specs.Declarations.{Declaration, Named, Equation}
 use Rattle.cv_syntax_trees.specs.Head.{same_head}
 use Rattle.cv_syntax_trees.specs.Tree.{Tree, Empty, Node, bound_names, first, second, same_tree}
-use Rattle.cv_directory_sorts.specs.declared.sort.Sort.TheVariants.{OfType}
+use Rattle.cv_syntax_trees.specs.declared.sites.sort.Sort.TheVariants.{OfType}
 use Rattle.cv_scope_rules.specs.typing.Signature.{declaration_of}
 use Rattle.cv_scope_rules.specs.Context.{items}
 use Rattle.cv_scope_rules.specs.Rules.{is_index}

@@ -6,7 +6,7 @@ use Rattle.cv_syntax_trees.specs.declared.head.Head.{Head}
 use Rattle.cv_syntax_trees.specs.declared.head.Head.TheVariants.{Leaf, New}
 use Rattle.cv_syntax_trees.specs.Tree.{Tree, Empty, Node, first_place, same_tree, second_place}
 use Rattle.cv_meaning.specs.contexts.Groups.{Function}
-use Rattle.cv_directory_sorts.specs.Sites.{first_of}
+use Rattle.cv_syntax_trees.specs.sites.Sites.{first_of}
 use Rattle.cv_scope_rules.specs.declared.position.Position.{Position}
 use Rattle.cv_scope_rules.specs.declared.position.Position.TheVariants.{Anywhere, Guarded}
 use Rattle.cv_scope_rules.specs.Context.{cell_of, first_position, replications_below, second_position}

@@ -5,7 +5,7 @@ use Rattle.cv_syntax_trees.specs.declared.head.Head.TheVariants.{Leaf, Read}
 use Rattle.cv_syntax_trees.specs.Tree.{Tree, Node, first}
 use Rattle.cv_scope_rules.specs.Context.{Context}
 use Rattle.cv_scope_rules.specs.Phrases.{OneCell, is_phrase}
-use Rattle.cv_directory_sorts.specs.declared.sort.Sort.{Sort}
+use Rattle.cv_syntax_trees.specs.declared.sites.sort.Sort.{Sort}
 use Rattle.cv_scope_rules.specs.typing.Signature.{sort_of}
 use Rattle.cv_scope_rules.specs.typing.Typing.{first_fault}
 use Rattle.cv_scope_rules.specs.typing.Wants.{AnyTerm}

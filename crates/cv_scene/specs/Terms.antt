@@ -5,11 +5,11 @@ use Rattle.cv_syntax_trees.specs.declared.head.Head.TheVariants.{Leaf, Read, App
 use Rattle.cv_syntax_trees.specs.Declarations.{Declaration}
 use Rattle.cv_syntax_trees.specs.Tree.{Tree, Empty, Node}
 use Rattle.cv_meaning.specs.Interpretation.{is_constant_of}
-use Rattle.cv_directory_sorts.specs.declared.sort.Sort.{Sort}
-use Rattle.cv_directory_sorts.specs.declared.sort.Sort.TheVariants.{BelowParameter}
-use Rattle.cv_directory_sorts.specs.Sites.{first_site, first_index}
+use Rattle.cv_syntax_trees.specs.declared.sites.sort.Sort.{Sort}
+use Rattle.cv_syntax_trees.specs.declared.sites.sort.Sort.TheVariants.{BelowParameter}
+use Rattle.cv_syntax_trees.specs.sites.Sites.{first_site, first_index}
 use Rattle.cv_scope_rules.specs.typing.Signature.{Signature, Above, boolean, function_in, sort_of}
-use Rattle.cv_directory_sorts.specs.Sorts.{same_sort}
+use Rattle.cv_syntax_trees.specs.sites.Sorts.{same_sort}
 use Rattle.cv_scope_rules.specs.typing.Wants.{AnyTerm, bound}
 use Rattle.cv_scope_rules.specs.declared.typing.precedence.Precedence.TheVariants.{First}
 use Rattle.cv_scope_rules.specs.typing.Typing as typing

@@ -4,8 +4,8 @@ use Rattle.std.specs.Prelude.{◌||◌, IfOk, is_some}
 use Rattle.std.proofs.Math.Path.{fun_ext}
 use Rattle.cv_syntax_trees.specs.Declarations.{Declaration}
 use Rattle.cv_syntax_trees.specs.Tree.{Tree}
-use Rattle.cv_directory_sorts.specs.declared.sort.Sort.{Sort}
-use Rattle.cv_directory_sorts.specs.Sites.{sites_of}
+use Rattle.cv_syntax_trees.specs.declared.sites.sort.Sort.{Sort}
+use Rattle.cv_syntax_trees.specs.sites.Sites.{sites_of}
 use Rattle.cv_typing.specs.declared.arrays.Arrays.{Arrays}
 use Rattle.cv_scope_rules.specs.typing.Parts.{nothing_above}
 use Rattle.cv_scope_rules.specs.typing.Signature.{OfGame, index_in, variable_in}

@@ -12,7 +12,7 @@ use Rattle.cv_scope_rules.specs.declared.typing.form.Form.TheVariants.{InProcess
 use Rattle.cv_scope_rules.specs.typing.Parts.{first_in, game_part, nothing_above, signature_of}
 use Rattle.cv_scope_rules.specs.typing.Typing.{first_fault}
 use Rattle.cv_scope_rules.specs.typing.Wants.{Run}
-use Rattle.cv_lists.proofs.Options.{is_some_map}
+use Rattle.cv_syntax_trees.proofs.lists.Options.{is_some_map}
 
 -- a refusal that names a fault is of one
 pub fault_there : (found : Option (ℕ × Fault)) (t : ScopeFault) (b : Bool) → IsRefusalOf found t → b ≡ not (is_some (named t)) → b ≡ false → false ≡ not (is_some found)

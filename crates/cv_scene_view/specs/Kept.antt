@@ -15,8 +15,8 @@ use Rattle.cv_scope_rules.specs.typing.Signature.{Above, index_in, variable_in}
 use Rattle.cv_typing.specs.Tables.{Map, above_of, arrays_of}
 use Rattle.cv_scope_rules.specs.declared.typing.precedence.Precedence.TheVariants.{First}
 use Rattle.cv_scope_rules.specs.typing.Wants.{bound}
-use Rattle.cv_directory_sorts.specs.declared.sort.Sort.{Sort}
-use Rattle.cv_directory_sorts.specs.declared.sort.Sort.TheVariants.{BelowParameter}
+use Rattle.cv_syntax_trees.specs.declared.sites.sort.Sort.{Sort}
+use Rattle.cv_syntax_trees.specs.declared.sites.sort.Sort.TheVariants.{BelowParameter}
 use Rattle.cv_scene.specs.Scenes.{Scene}
 use Rattle.cv_scene.specs.Terms.{Names, is_function}
 

@@ -1,6 +1,6 @@
 ghost use Rattle.std.specs.Prelude.{◌≡◌, ◌<◌, ◌^◌, All, IfOk, OnOk, Some, length};
-ghost use Rattle.cv_directory_sorts.specs.Sites.{sites_of};
-ghost use Rattle.cv_directory_sorts.specs.declared.sort.Sort.TheVariants.{BelowParameter};
+ghost use Rattle.cv_syntax_trees.specs.sites.Sites.{sites_of};
+ghost use Rattle.cv_syntax_trees.specs.declared.sites.sort.Sort.TheVariants.{BelowParameter};
 ghost use Rattle.cv_scope_rules.specs.Context.{replications_below};
 ghost use Rattle.cv_syntax_trees.specs.Tree.{size};
 ghost use Rattle.cv_syntax.specs.PoolTrees.{tree_at};
@@ -14,9 +14,9 @@ ghost use Rattle.cv_scene_view.specs.Kept.{above_behind, scene_of};
 
 use crate::games::is_there;
 use crate::phrases::{Phrase, is_phrase};
-use cv_directory_sorts::Sort;
 use cv_path::{Lies, place_in};
 use cv_syntax::{Head, NodeId, Work, read_node};
+use cv_syntax_trees::sites::Sort;
 use cv_typing::{Arrays, is_typed_term, sort_of_term};
 use std::alloc::{AllocError, Global};
 use std::collections::HashMap;

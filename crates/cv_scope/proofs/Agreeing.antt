@@ -5,7 +5,7 @@ use Rattle.cv_syntax_trees.specs.declared.head.Head.{Head}
 use Rattle.cv_syntax_trees.specs.declared.head.Head.TheVariants.{Leaf, Read}
 use Rattle.cv_syntax_trees.specs.Head.{weight}
 use Rattle.cv_syntax_trees.specs.Tree.{Tree, Empty, Node, size}
-use Rattle.cv_directory_sorts.specs.Sites.{first_of}
+use Rattle.cv_syntax_trees.specs.sites.Sites.{first_of}
 use Rattle.cv_scope_rules.specs.declared.fault.Fault.{Fault}
 use Rattle.cv_scope_rules.specs.declared.fault.Fault.TheVariants as fault
 use Rattle.cv_syntax_trees.specs.Declarations.{Declaration}
@@ -29,7 +29,7 @@ use Rattle.cv_scope.proofs.Latest.{IsCovered, all_stand}
 use Rattle.cv_scope_rules.specs.Branches.{Each, Pairs, IsLike}
 use Rattle.cv_scope_rules.proofs.Pairs.{each_weaker, pairs_append, pairs_of, pairs_weaker}
 use Rattle.cv_scope.proofs.Reaching.{AreBounded, ReachesAlike, bounded_behind, reaches_first, reaches_second}
-use Rattle.cv_lists.proofs.Tests.{and_false, or_false}
+use Rattle.cv_syntax_trees.proofs.lists.Tests.{and_false, or_false}
 
 -- the tables hold what is known where a node stands
 pub record Agrees (S : Seen) (s : Standing) : Type 0 where

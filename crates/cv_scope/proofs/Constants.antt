@@ -9,12 +9,12 @@ use Rattle.cv_syntax_trees.specs.Declarations.{Declaration, Named}
 use Rattle.cv_syntax.specs.Declarations.{declarations, declared}
 use Rattle.cv_syntax_trees.specs.Tree.{Tree, Empty, Node}
 use Rattle.cv_meaning.specs.Interpretation.{is_constant_of}
-use Rattle.cv_directory_sorts.specs.Sites.{SitesView, sites_of}
+use Rattle.cv_syntax_trees.specs.sites.Sites.{SitesView, sites_of}
 use Rattle.cv_directory.specs.Tables.{seen}
 use Rattle.cv_scope.specs.declared.names.NameKinds.{NameKinds}
 use Rattle.cv_scope.specs.Held.{constant_by, has_constant, is_here, names_held}
 use Rattle.cv_scope_rules.specs.Scope.{names_of}
-use Rattle.cv_lists.proofs.Tests.{or_assoc}
+use Rattle.cv_syntax_trees.proofs.lists.Tests.{or_assoc}
 
 drop_has : (trees : List KindTree) (ds : List Decl) (k x : ℕ) → k < length ds → has_constant trees (drop k ds) x ≡ (is_here (option_and_then (λ d. constant_by (declared trees d)) (slice_get ds k)) x || has_constant trees (drop (suc k) ds) x)
 drop_has trees [] k x l = absurd (omega arith)

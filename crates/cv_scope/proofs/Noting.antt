@@ -16,7 +16,7 @@ use Rattle.cv_scope.specs.declared.state.State.{State}
 use Rattle.cv_scope.specs.Held.{HasLiveBinders, IsSiteOf, OnlySites, SameAbove, last_held, site_held}
 use Rattle.cv_scope.specs.Seen.{may_follow_last, may_stand_last, with_site, with_sites}
 use Rattle.cv_scope_rules.specs.Sites.{Site, SiteName, Variable, bound_types, channel_here, named_here, site_of, variable_sites}
-use Rattle.cv_lists.proofs.Tests.{and_true_back}
+use Rattle.cv_syntax_trees.proofs.lists.Tests.{and_true_back}
 
 abbrev pub site_at : List (ℕ × ℕ) → ℕ → SiteName → List ℕ → Site
 site_at rs p name types = record { name = name; replications = rs; types = types; place = p }

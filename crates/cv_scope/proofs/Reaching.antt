@@ -9,7 +9,7 @@ use Rattle.cv_syntax_trees.specs.declared.head.Head.TheVariants.{Repl, In, Event
 use Rattle.cv_syntax_trees.specs.Head.{same_head}
 use Rattle.cv_syntax_trees.specs.Tree.{Tree, Empty, Node, second, lone, same_tree}
 use Rattle.cv_syntax_trees.specs.Children.{is_empty, is_leaf}
-use Rattle.cv_directory_sorts.specs.Pairs.{same_pair}
+use Rattle.cv_syntax_trees.specs.sites.Pairs.{same_pair}
 use Rattle.cv_scope_rules.specs.declared.position.Position.{Position}
 use Rattle.cv_scope_rules.specs.declared.position.Position.TheVariants.{Bodies, ElseBody, Guards, Guarded, Cells}
 use Rattle.cv_scope_rules.specs.Context.{Context, cell_of, cells_of, index_terms, items, first_context, second_context, item_context, rest_context, replications_below}
@@ -17,7 +17,7 @@ use Rattle.cv_scope.specs.Seen.{Seen, behind, current, defined_by, is_cons, is_d
 use Rattle.cv_scope.specs.tables.Definitions.{is_defined, with_definition}
 use Rattle.cv_scope_rules.specs.Tests.{is_in_reach}
 use Rattle.cv_scope.proofs.tables.Stacks.{pair_same}
-use Rattle.cv_lists.proofs.Tests.{or_false, and_false, or_assoc, or_exchange, and_or, equals_comm}
+use Rattle.cv_syntax_trees.proofs.lists.Tests.{or_false, and_false, or_assoc, or_exchange, and_or, equals_comm}
 
 -- truth values
 

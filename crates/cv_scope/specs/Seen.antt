@@ -7,7 +7,7 @@ use Rattle.cv_syntax_trees.specs.declared.head.Head.TheVariants.{In, New, Let, B
 use Rattle.cv_syntax_trees.specs.Children.{is_empty, is_leaf}
 use Rattle.cv_syntax_trees.specs.Tree.{Tree, Empty, Node, second, same_tree, first_place, second_place}
 use Rattle.cv_meaning.specs.Binders.{bound_names}
-use Rattle.cv_directory_sorts.specs.Sites.{first_of}
+use Rattle.cv_syntax_trees.specs.sites.Sites.{first_of}
 use Rattle.cv_scope.specs.tables.Definitions.{is_defined, with_definition}
 use Rattle.cv_scope_rules.specs.declared.fault.Fault.{Fault}
 use Rattle.cv_scope_rules.specs.declared.fault.Fault.TheVariants.{Unscoped, TwoSites, Channel, Replications}

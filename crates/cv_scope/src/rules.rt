@@ -2,7 +2,7 @@ ghost use Rattle.std.specs.Prelude.{◌≡◌, ◌<◌, length, nat_lt, None, If
 ghost use Rattle.cv_pool.specs.Nodes.{ChildBelow};
 ghost use Rattle.cv_syntax_trees.specs.Tree.{first};
 ghost use Rattle.cv_syntax.specs.PoolTrees.{tree_at};
-ghost use Rattle.cv_directory_sorts.specs.Counting.{count};
+ghost use Rattle.cv_syntax_trees.specs.sites.Counting.{count};
 ghost use Rattle.cv_scope.specs.Held.{AreListed, HasLiveBinders, IsOpened, OnlySites, names_held, state_held};
 ghost use Rattle.cv_scope_rules.specs.Rules.{carries_current as are_current};
 ghost use Rattle.cv_scope.specs.Seen.{fault_seen, is_well_replicated as are_well_replicated};

@@ -20,7 +20,7 @@ use Rattle.cv_scope_rules.specs.Standing.{Standing, at_root, first_standing, sec
 use Rattle.cv_scope_rules.specs.Branches.{AreInDifferentBranches, AreSitesAlike, HasOtherName, IsApartByBranches, Each, Pairs, IsLike}
 use Rattle.cv_scope_rules.proofs.Pairs.{all_both, all_map, all_true, all_weaker, each_append, each_of, each_weaker, pairs_append, pairs_weaker}
 use Rattle.cv_scope_rules.proofs.Ranges.{end_later, end_push}
-use Rattle.cv_lists.proofs.Each.{AllByRecursion_append, AllByRecursion_left, AllByRecursion_right}
+use Rattle.cv_syntax_trees.proofs.lists.Each.{AllByRecursion_append, AllByRecursion_left, AllByRecursion_right}
 
 -- ranges
 

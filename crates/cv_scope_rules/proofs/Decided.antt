@@ -6,7 +6,7 @@ use Rattle.std.proofs.lemmas.Bool.{and_parts, and_from, or_cases, or_left, or_ri
 use Rattle.cv_syntax_trees.specs.declared.head.Head.{Head}
 use Rattle.cv_syntax_trees.specs.declared.head.Head.TheVariants.{Repl, Branch, Leaf, Read}
 use Rattle.cv_syntax_trees.specs.Tree.{Tree, Node, same_tree}
-use Rattle.cv_directory_sorts.specs.Counting.{count}
+use Rattle.cv_syntax_trees.specs.sites.Counting.{count}
 use Rattle.cv_scope_rules.specs.declared.fault.Fault.{Fault}
 use Rattle.cv_scope_rules.specs.declared.fault.Fault.TheVariants.{Unscoped, TwoSites, Channel, Replications}
 use Rattle.cv_scope_rules.specs.declared.position.Position.{Position}

@@ -4,9 +4,9 @@ use Rattle.std.proofs.lemmas.Bool.{both_ways, and_parts, not-true}
 use Rattle.cv_syntax_trees.specs.declared.head.Head.{Head}
 use Rattle.cv_syntax_trees.specs.declared.head.Head.TheVariants.{In, New, Let, Branch, Binder, Key, Call}
 use Rattle.cv_syntax_trees.specs.Tree.{Tree, Empty, Node, second}
-use Rattle.cv_directory_sorts.specs.declared.sort.Sort.{Sort}
-use Rattle.cv_directory_sorts.specs.declared.sort.Sort.TheVariants.{OfType, BelowParameter}
-use Rattle.cv_directory_sorts.specs.Sites.{first_of, bound_sort, site_here, at_parameters, parameters_below, first_site}
+use Rattle.cv_syntax_trees.specs.declared.sites.sort.Sort.{Sort}
+use Rattle.cv_syntax_trees.specs.declared.sites.sort.Sort.TheVariants.{OfType, BelowParameter}
+use Rattle.cv_syntax_trees.specs.sites.Sites.{first_of, bound_sort, site_here, at_parameters, parameters_below, first_site}
 use Rattle.cv_scope_rules.specs.Scope.{is_untyped_here, is_untyped_in, is_variable}
 use Rattle.cv_scope_rules.specs.Phrases.{head_binds_none, binds_none}
 

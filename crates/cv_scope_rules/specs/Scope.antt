@@ -3,9 +3,9 @@ use Rattle.std.specs.Prelude.{◌||◌, ℕ, Bool, List, [], Option, is_some}
 use Rattle.cv_syntax_trees.specs.Declarations.{Declaration}
 use Rattle.cv_syntax_trees.specs.Tree.{Tree}
 use Rattle.cv_meaning.specs.Interpretation.{is_constant_of}
-use Rattle.cv_directory_sorts.specs.Sites.{first_site}
-unfoldable pub use Rattle.cv_directory_sorts.specs.Sites.{is_untyped_in}
-pub use Rattle.cv_directory_sorts.specs.Sites.{is_untyped_here}
+use Rattle.cv_syntax_trees.specs.sites.Sites.{first_site}
+unfoldable pub use Rattle.cv_syntax_trees.specs.sites.Sites.{is_untyped_in}
+pub use Rattle.cv_syntax_trees.specs.sites.Sites.{is_untyped_here}
 use Rattle.cv_syntax.specs.faults.Walk as walk
 use Rattle.cv_syntax.specs.faults.Walk.{IsObeyed, Walk}
 use Rattle.cv_scope_rules.specs.declared.fault.Fault.{Fault}

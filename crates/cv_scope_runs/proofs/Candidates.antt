@@ -18,7 +18,7 @@ use Rattle.cv_scope_rules.specs.Made.{is_bound}
 use Rattle.cv_scope_runs.proofs.Asked.{Asked, AreDistinct}
 use Rattle.cv_scope_runs.proofs.TermsLater.{cell, later_same, all_readable_assigned}
 use Rattle.cv_scope_runs.proofs.Contexts.{Matches, CellHolds, Holds, NamesApart, game_names, own_holds, own_value, not_constant, variable_none, all_scope_readable, put_here, put_other, bound_later}
-use Rattle.cv_lists.proofs.Each.{AllByRecursion_append, AllByRecursion_weaker}
+use Rattle.cv_syntax_trees.proofs.lists.Each.{AllByRecursion_append, AllByRecursion_weaker}
 
 -- the branch is a candidate at the tuple
 pub record IsChosen (g : Setting) (at : Indices) (m : Store) (branch : Tree) (u : List ℕ) : Type 0 where

@@ -22,7 +22,7 @@ use Rattle.cv_scope_runs.proofs.Plain.{game_context, game_plain, VisitPlain, vis
 use Rattle.cv_scope_runs.proofs.OnceRuns.{Has, made_has}
 use Rattle.cv_scope_runs.proofs.OnceGames.{MakesName, names_at, made_once}
 use Rattle.cv_scope_runs.proofs.FreshRuns.{IsClear, visits_clear}
-use Rattle.cv_lists.proofs.Each.{AllByRecursion_append, AllByRecursion_weaker, AllByRecursion_both}
+use Rattle.cv_syntax_trees.proofs.lists.Each.{AllByRecursion_append, AllByRecursion_weaker, AllByRecursion_both}
 
 abbrev Differ : Cell → Cell → Type 0
 Differ c d = same_cell c d ≡ false

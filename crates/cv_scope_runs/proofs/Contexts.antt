@@ -20,7 +20,7 @@ use Rattle.cv_scope_rules.specs.Made.{is_bound}
 use Rattle.cv_scope_runs.specs.Promises.{IsRecorded, EventsKept, AreIndicesOf}
 use Rattle.cv_scope_runs.proofs.Asked.{Asked, AreDistinct}
 use Rattle.cv_scope_runs.proofs.TermsLater.{LeafReads, index, constant, cell, Readable, AllReadable, Extends, value_kept, values_kept, readable_kept, all_readable_kept, later_same}
-use Rattle.cv_lists.proofs.Each.{AllByRecursion_append, AllByRecursion_weaker}
+use Rattle.cv_syntax_trees.proofs.lists.Each.{AllByRecursion_append, AllByRecursion_weaker}
 
 -- events
 

@@ -13,13 +13,12 @@ use Rattle.cv_meaning.specs.Candidates.{are_assigned}
 use Rattle.cv_meaning.specs.Inputs.{Input}
 use Rattle.cv_meaning.specs.Serving.{Visit}
 use Rattle.cv_meaning.specs.Runs.{Mode, Answer, Move, run_visits, run_from, start}
-use Rattle.cv_scope_rules.specs.Context.{Context, known_at}
+use Rattle.cv_scope_rules.specs.Context.{Context, known_at, nothing_known}
 use Rattle.cv_scope_rules.specs.Sites.{SiteName, Variable}
 use Rattle.cv_scope_rules.specs.Scope.{is_variable}
 use Rattle.cv_scope_rules.specs.Branches.{Pairs}
 use Rattle.cv_scope_rules.proofs.Apart.{game_branches}
 use Rattle.cv_scope_rules.specs.declared.position.Position.TheVariants.{Anywhere}
-use Rattle.cv_scope_rules.specs.Context.{nothing_known}
 use Rattle.cv_scope_rules.specs.Phrases.{Phrase, Inputs, Body, Branches, Arm, Message, Binders, Cells, is_oracle_phrase, binds_none, IsWellFormedContext, HasConstantsOf}
 use Rattle.cv_scope_runs.specs.Reads.{IsKept, TermsAssigned, ReadsAssigned, VisitReadsAssigned, BranchAssigned, BranchesAssigned}
 use Rattle.cv_scope_rules.specs.Made.{is_bound}
@@ -37,7 +36,7 @@ use Rattle.cv_scope_runs.proofs.Games.{Game, variable_site, stands_phrase, stand
 use Rattle.cv_scope_rules.proofs.Unbound.{no_variable}
 use Rattle.cv_scope_runs.proofs.PathRuns.{term_reads, terms_read, later_holds, only_variables, SiteHolds, StoreHolds, InputReady, GuardsShape, shape, guards_shape, own_ready, guarded_holds, branch_holds}
 use Rattle.cv_scope_runs.proofs.ServeRuns.{VisitHolds, Moves, game_holds}
-use Rattle.cv_lists.proofs.Each.{AllByRecursion_weaker, AllByRecursion_both}
+use Rattle.cv_syntax_trees.proofs.lists.Each.{AllByRecursion_weaker, AllByRecursion_both}
 
 module _ (g : Setting) (variable : ℕ → Bool) (game : Tree) (fine : Game g variable game) where
   holds_plain : (Γ : Context) (at : Indices) (x : Memory) → Matches g variable Γ.replications at → Holds g variable Γ at x.store x.events → ContextHolds g Γ at x

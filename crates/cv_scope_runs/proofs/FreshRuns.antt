@@ -17,7 +17,7 @@ use Rattle.cv_scope_rules.specs.Branches.{Pairs, IsApartByBranches}
 use Rattle.cv_scope_rules.specs.Made.{is_bound, made_at}
 use Rattle.cv_scope_runs.proofs.OnceRuns.{Has, VisitsApart, nothing_twice}
 use Rattle.cv_scope_runs.proofs.OnceGames.{MakesName, names_single, names_at}
-use Rattle.cv_lists.proofs.Each.{AllByRecursion_append, AllByRecursion_both, AllByRecursion_left}
+use Rattle.cv_syntax_trees.proofs.lists.Each.{AllByRecursion_append, AllByRecursion_both, AllByRecursion_left}
 use Rattle.std.proofs.lemmas.Bool.{or_left, or_right}
 
 -- what a put and a list of binders assign

@@ -5,9 +5,9 @@ use Rattle.cv_syntax_trees.specs.declared.head.Head.{Head}
 use Rattle.cv_syntax_trees.specs.declared.head.Head.TheVariants.{Repl, In, New, Let, Branch, Binder, Key, Call}
 use Rattle.cv_syntax_trees.specs.Tree.{Tree, Node, second}
 use Rattle.cv_meaning.specs.Interpretation.{Setting}
-use Rattle.cv_directory_sorts.specs.declared.sort.Sort.{Sort}
-use Rattle.cv_directory_sorts.specs.declared.sort.Sort.TheVariants.{OfType, BelowParameter}
-use Rattle.cv_directory_sorts.specs.Sites.{first_of, bound_sort, site_here, at_parameters, parameters_below, first_site}
+use Rattle.cv_syntax_trees.specs.declared.sites.sort.Sort.{Sort}
+use Rattle.cv_syntax_trees.specs.declared.sites.sort.Sort.TheVariants.{OfType, BelowParameter}
+use Rattle.cv_syntax_trees.specs.sites.Sites.{first_of, bound_sort, site_here, at_parameters, parameters_below, first_site}
 use Rattle.cv_scope_rules.specs.declared.position.Position.TheVariants.{Anywhere}
 use Rattle.cv_scope_rules.specs.Context.{Context, nothing_known}
 use Rattle.cv_scope_rules.specs.Sites.{Variable}

@@ -19,7 +19,7 @@ use Rattle.cv_scope_rules.specs.Sites.{SiteName, Channel}
 use Rattle.cv_scope_rules.specs.Branches.{Pairs, IsApartByBranches}
 use Rattle.cv_scope_runs.proofs.OnceRuns.{Has, InputsApart, inputs_apart}
 use Rattle.cv_scope_runs.proofs.OnceGames.{MakesName, names_single}
-use Rattle.cv_lists.proofs.Each.{AllByRecursion_both}
+use Rattle.cv_syntax_trees.proofs.lists.Each.{AllByRecursion_both}
 
 IsInput : Input → Type 0
 IsInput i = IsInputOn i.channel i.tree

@@ -38,7 +38,7 @@ use Rattle.cv_scope_runs.proofs.PathRuns.{SiteHolds, StoreHolds}
 use Rattle.cv_scope_runs.proofs.ServeRuns.{VisitHolds, Moves, game_holds}
 use Rattle.cv_scope_runs.proofs.FactsRuns.{all_reads_assigned, well_game}
 use Rattle.cv_meaning_laws.proofs.adequacy.Lists.{has_below}
-use Rattle.cv_lists.proofs.Each.{AllByRecursion_append, AllByRecursion_weaker, AllByRecursion_both}
+use Rattle.cv_syntax_trees.proofs.lists.Each.{AllByRecursion_append, AllByRecursion_weaker, AllByRecursion_both}
 
 -- what holds of each node of the tree holds where a subtree stands
 

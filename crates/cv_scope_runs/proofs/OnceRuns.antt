@@ -15,7 +15,7 @@ use Rattle.cv_meaning_laws.proofs.Moves.{TakenEach, taken_each, run_keeps}
 use Rattle.cv_scope_rules.specs.Branches.{Pairs}
 use Rattle.cv_scope_rules.proofs.Pairs.{pairs_append}
 use Rattle.cv_scope_runs.proofs.Taking.{TakenPairs, taken_pairs}
-use Rattle.cv_lists.proofs.Each.{AllByRecursion_append, AllByRecursion_weaker, AllByRecursion_both, AllByRecursion_cross, AllByRecursion_left, AllByRecursion_right}
+use Rattle.cv_syntax_trees.proofs.lists.Each.{AllByRecursion_append, AllByRecursion_weaker, AllByRecursion_both, AllByRecursion_cross, AllByRecursion_left, AllByRecursion_right}
 use Rattle.cv_meaning_laws.proofs.Listed.{tuple_push}
 use Rattle.cv_meaning_runs.proofs.Spots.{admitted_taken}
 

@@ -31,7 +31,7 @@ use Rattle.cv_scope_runs.proofs.Rows
 use Rattle.cv_scope_runs.proofs.Candidates.{IsChosen, BranchAt, IsBranch, candidates_fine, chosen_fine, OnlyVariables, bound_cells, list_cells}
 use Rattle.cv_scope_runs.proofs.Standing.{Stands, in_first, in_second, first_below, second_below}
 use Rattle.cv_scope_runs.proofs.Games.{Game, stands_phrase, stands_asked, stands_variable, new_index}
-use Rattle.cv_lists.proofs.Each.{AllByRecursion_flat_map, AllByRecursion_append}
+use Rattle.cv_syntax_trees.proofs.lists.Each.{AllByRecursion_flat_map, AllByRecursion_append}
 
 pub grows_same : (x : Memory) → GrowsTo x x
 grows_same x = record { store = λ y u v e. e; events = λ e h. h }

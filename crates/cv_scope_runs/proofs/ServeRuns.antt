@@ -23,7 +23,7 @@ use Rattle.cv_scope_runs.proofs.Rows.{row}
 use Rattle.cv_scope_runs.proofs.Standing.{Stands, root, in_first, in_second, first_below, second_below}
 use Rattle.cv_scope_runs.proofs.Games.{Game, has_parts, stands_phrase}
 use Rattle.cv_scope_runs.proofs.PathRuns.{StoreHolds, grows_same, grows_then, InputReady, input_later, inputs_hold, Fits, Comes, Done, turn_holds, done_same, step_goes}
-use Rattle.cv_lists.proofs.Each.{AllByRecursion_append, AllByRecursion_weaker, AllByRecursion_cross, AllByRecursion_left, AllByRecursion_right}
+use Rattle.cv_syntax_trees.proofs.lists.Each.{AllByRecursion_append, AllByRecursion_weaker, AllByRecursion_cross, AllByRecursion_left, AllByRecursion_right}
 
 module _ (g : Setting) (variable : ℕ → Bool) (game : Tree) (fine : Game g variable game) where
   -- services

@@ -25,7 +25,7 @@ use Rattle.cv_steps.proofs.values.Adding.{tapes_are_kept}
 use Rattle.cv_derive_laws.specs.stores.Costs.{bound_of}
 use Rattle.cv_derive_laws.proofs.stores.Costs.{apart}
 use Rattle.cv_sequences.proofs.costs.Costs.{cost_worth, together}
-use Rattle.cv_lists.proofs.Each.{AllByRecursion_left, AllByRecursion_right}
+use Rattle.cv_syntax_trees.proofs.lists.Each.{AllByRecursion_left, AllByRecursion_right}
 use Rattle.cv_typing_runs.proofs.Games.{known}
 use Rattle.cv_scene.specs.Contexts.{AreAnswers}
 use Rattle.cv_scene.specs.Reductions.{context_of_game}

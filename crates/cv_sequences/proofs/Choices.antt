@@ -14,12 +14,12 @@ use Rattle.cv_meaning_laws.specs.adequacy.Typed as meaning
 use Rattle.cv_meaning_laws.specs.adequacy.Typed.{IsDeclared}
 use Rattle.cv_meaning_laws.proofs.adequacy.Sorted.{some_value}
 use Rattle.cv_scope_rules.specs.Phrases.{Phrase, Arm, Binders, Body, Branches as BranchesPhrase, Cells, Else, Guarded as GuardedPhrase, Guards, Indices as IndicesPhrase, Inputs, Message as MessagePhrase, Nil, OneCell, Pattern, Term, Terms, Then, is_phrase}
-use Rattle.cv_directory_sorts.specs.declared.sort.Sort.{Sort}
-use Rattle.cv_directory_sorts.specs.declared.sort.Sort.TheVariants.{BelowParameter, OfType}
-use Rattle.cv_directory_sorts.specs.Sites.{Variable, sites_of}
+use Rattle.cv_syntax_trees.specs.declared.sites.sort.Sort.{Sort}
+use Rattle.cv_syntax_trees.specs.declared.sites.sort.Sort.TheVariants.{BelowParameter, OfType}
+use Rattle.cv_syntax_trees.specs.sites.Sites.{Variable, sites_of}
 use Rattle.cv_scope_rules.specs.typing.Signature.{Above, OfGame, Signature, variable_sort}
 use Rattle.cv_scope_rules.specs.typing.Typing.{IsTyped, binders_differ}
-use Rattle.cv_directory_sorts.specs.Sorts.{differs_from}
+use Rattle.cv_syntax_trees.specs.sites.Sorts.{differs_from}
 use Rattle.cv_scope_rules.specs.typing.Wants.{Want, above_second, wants}
 use Rattle.cv_typing_runs.specs.Games.{AreDeclared, HasDeclaredSorts, sort_of_meaning}
 use Rattle.cv_typing_runs.proofs.SameSites.{input_binders}

@@ -16,7 +16,7 @@ use Rattle.cv_meaning.specs.Runs.{Events, Mode, Random, Real}
 use Rattle.cv_meaning.specs.Satisfies.{Satisfies}
 use Rattle.cv_meaning_laws.proofs.adequacy.Lists.{contains_has}
 use Rattle.cv_meaning_laws.proofs.Listed.{Has}
-use Rattle.cv_directory_sorts.specs.Sites.{first_index, first_of, first_site, index_here, is_untyped_in}
+use Rattle.cv_syntax_trees.specs.sites.Sites.{first_index, first_of, first_site, index_here, is_untyped_in}
 use Rattle.cv_scope_rules.specs.declared.typing.form.Form.TheVariants.{InProcess}
 use Rattle.cv_scope_rules.specs.typing.Parts.{IsTypedGame, nothing_above}
 use Rattle.cv_scope_rules.specs.typing.Wants.{Run}

@@ -18,7 +18,7 @@ use Rattle.cv_steps.specs.Judgements.{Accepted, judgement_of}
 use Rattle.cv_steps.specs.Steps.{Cost, Step}
 use Rattle.cv_steps_laws.proofs.Keeping.{unqueried}
 use Rattle.cv_steps_laws.proofs.Unnamed.{asked_untested}
-use Rattle.cv_lists.proofs.Tests.{differ_comm}
+use Rattle.cv_syntax_trees.proofs.lists.Tests.{differ_comm}
 
 untested : (y : ℕ) (m : Mode) → IsUntested (only y) m → is_tested m y ≡ false
 untested y Events e = refl

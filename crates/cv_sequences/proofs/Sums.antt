@@ -33,7 +33,7 @@ use Rattle.cv_meaning_chances.proofs.values.Tapes.{tapes}
 use Rattle.cv_sequences.proofs.Steps.{next_values}
 use Rattle.cv_sequences.proofs.secrets.Alike.{bounded_alike}
 use Rattle.cv_sequences.proofs.secrets.Sums.{added_alike}
-use Rattle.cv_lists.proofs.Each.{AllByRecursion_left, AllByRecursion_right}
+use Rattle.cv_syntax_trees.proofs.lists.Each.{AllByRecursion_left, AllByRecursion_right}
 
 -- what a chance is apart from one, and that from another, it is from the other by both distances
 pub further : (p q r v c : Chance) → 0 < p.all → 0 < q.all → 0 < r.all → AtMost (distance p q) v → AtMost (distance q r) c → AtMost (distance p r) (plus v c)

@@ -1,7 +1,7 @@
 -- The trees of certificates.
 use Rattle.std.specs.Prelude.{ℕ, List, [], ◌∷◌, ◌++◌, map, All, Option, None, Some}
 use Rattle.cv_syntax_trees.specs.declared.head.Head.TheVariants as head
-use Rattle.cv_syntax_trees.specs.Tree.{Tree, chain}
+use Rattle.cv_syntax_trees.specs.Tree.{Tree, Node, chain}
 use Rattle.cv_pool.specs.KindTree.{KindTree}
 use Rattle.cv_pool.specs.declared.names.names.NameId.{NameId}
 use Rattle.cv_step_writer.specs.declared.certificates.Route.{Route}
@@ -26,7 +26,7 @@ routes_tree trees routes = chain (map (route_tree trees) routes)
 -- the routes of an entry: behind the number of their alternative, where there is more than one
 abbrev pub chosen_tree : List KindTree → (alternative : Option ℕ) → List Route → Tree
 chosen_tree trees None routes = routes_tree trees routes
-chosen_tree trees (Some a) routes = over head.AlternativePart (number a ∷ routes_tree trees routes ∷ [])
+chosen_tree trees (Some a) routes = Node head.Cons (over head.AlternativePart (number a ∷ [])) (routes_tree trees routes)
 
 abbrev pub entry_tree : List KindTree → Entry → Tree
 entry_tree trees (entry.Never p by) = over head.AtEntry (number p ∷ over head.NeverEntry (derivation trees by.items ∷ []) ∷ [])

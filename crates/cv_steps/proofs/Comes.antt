@@ -13,7 +13,7 @@ use Rattle.cv_scope_rules.specs.Phrases.{Phrase, Nil, Inputs, Body, Then, Else, 
 use Rattle.cv_scene.specs.Scenes.{or_empty, part_at}
 use Rattle.cv_steps.specs.Changes.{change_at}
 use Rattle.cv_steps.proofs.Flat.{is_flat, flat_output, guarded_of, guards_of}
-use Rattle.cv_lists.proofs.Numbers.{below_or_not}
+use Rattle.cv_syntax_trees.proofs.lists.Numbers.{below_or_not}
 
 subtree_second : (h : Head) (a b : Tree) (p q : ℕ) → weight h + size a + q ≡ p → subtree (Node h a b) p ≡ subtree b q
 unfolding subtree

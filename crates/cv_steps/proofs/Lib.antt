@@ -6,4 +6,3 @@ pub mod Pruned
 pub mod Places
 pub mod Rewritten
 pub mod Sizes
-pub mod CellSizes

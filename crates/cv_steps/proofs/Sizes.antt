@@ -16,7 +16,7 @@ use Rattle.cv_meaning_laws.specs.adequacy.Typed.{AreVariables, BelowParameter, C
 use Rattle.cv_meaning.specs.Still.{head_is_still, is_still}
 use Rattle.cv_scope_rules.specs.Phrases.{Phrase, Nil, Inputs, Body, Then, Else, Branches, Arm, Guards, Guarded, Pattern, Message, Indices, Binders, Cells, Terms, Term, is_phrase}
 use Rattle.cv_steps.proofs.Flat.{nil_still, term_still, terms_still}
-use Rattle.cv_lists.proofs.Each.{AllByRecursion_append}
+use Rattle.cv_syntax_trees.proofs.lists.Each.{AllByRecursion_append}
 
 -- the name of a sort: of a type, or of a parameter
 abbrev sort_name : Sort → ℕ

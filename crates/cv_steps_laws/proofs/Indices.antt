@@ -7,7 +7,7 @@ use Rattle.cv_syntax_trees.specs.Head.{weight}
 use Rattle.cv_syntax_trees.specs.Tree.{Tree, Empty, Node, size, subtree}
 use Rattle.cv_meaning.specs.Replaced.{replaced}
 use Rattle.cv_meaning.specs.Still.{defines}
-use Rattle.cv_directory_sorts.specs.Sites.{first_index, first_of, index_here}
+use Rattle.cv_syntax_trees.specs.sites.Sites.{first_index, first_of, index_here}
 use Rattle.cv_scope_rules.specs.Phrases.{Phrase, Inputs, Term, parts, is_phrase}
 use Rattle.cv_scene.specs.Pruning.{Part, Pruned, pruned}
 use Rattle.cv_scene.specs.Scenes.{Scene, head_reads, or_empty, part_at}

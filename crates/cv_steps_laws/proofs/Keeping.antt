@@ -33,7 +33,7 @@ use Rattle.cv_steps_laws.proofs.Gone.{dropped_game}
 use Rattle.cv_steps.proofs.Comes.{placed}
 use Rattle.cv_steps_laws.proofs.Sorts.{there_named}
 use Rattle.cv_steps_laws.proofs.Unnamed.{unnamed_unread, unnamed_undrawn, unlisted_unread, dropped_undrawn, dropped_phrase, asked_untested}
-use Rattle.cv_lists.proofs.Options.{none_from_not_some}
+use Rattle.cv_syntax_trees.proofs.lists.Options.{none_from_not_some}
 
 -- steps
 

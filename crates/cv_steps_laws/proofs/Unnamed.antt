@@ -12,7 +12,7 @@ use Rattle.cv_meaning.specs.Advantage.{IsAsked, secrecy_query}
 use Rattle.cv_meaning_chances.specs.unread.Dropping.{reads_none, head_draws_none, draws_none, IsUntested}
 use Rattle.cv_meaning.specs.Still.{defines}
 use Rattle.cv_meaning.specs.Queries.{queries_in}
-use Rattle.cv_directory_sorts.specs.Sites.{first_of}
+use Rattle.cv_syntax_trees.specs.sites.Sites.{first_of}
 use Rattle.cv_scope_rules.specs.Phrases.{Phrase, Body, Nil, Term, parts, both_are, is_phrase}
 use Rattle.cv_scene.specs.Scenes.{Scene, head_names, names, head_reads, first_reading, asks_for, is_queried}
 use Rattle.cv_steps.specs.Changes.{without, only}

@@ -11,10 +11,10 @@ use Rattle.cv_syntax_trees.specs.Declarations.{Named, Query}
 use Rattle.cv_syntax_trees.specs.Tree.{Empty, Node, lone, size, depth, subtree, same_tree}
 use Rattle.cv_meaning_runs.specs.Replacement.{if_tree}
 use Rattle.cv_meaning.specs.Replaced.{replaced}
-use Rattle.cv_directory_sorts.specs.Sites.{first_index, first_site, bound_sort, is_untyped_in}
+use Rattle.cv_syntax_trees.specs.sites.Sites.{first_index, first_site, bound_sort, is_untyped_in}
 use Rattle.cv_scope_rules.specs.typing.Parts.{first_in}
 use Rattle.cv_scope_rules.specs.typing.Typing.{binders_differ}
-use Rattle.cv_directory_sorts.specs.Counting.{count}
+use Rattle.cv_syntax_trees.specs.sites.Counting.{count}
 use Rattle.cv_meaning.specs.Queries.{queries_in}
 use Rattle.cv_scope_rules.specs.Context.{context_at}
 use Rattle.cv_scope_rules.specs.Sites.{sites_from}

@@ -9,15 +9,14 @@ use Rattle.cv_syntax_trees.specs.declared.class.Class.TheVariants as class
 use Rattle.cv_syntax.specs.declared.decls.Decl.{Decl}
 use Rattle.cv_syntax.specs.declared.decls.Decl.TheVariants as decl
 use Rattle.cv_pool.specs.declared.node.NodeId.{NodeId}
-use Rattle.cv_syntax_trees.specs.Tree.{name_at, name_in}
+use Rattle.cv_syntax_trees.specs.Tree.{name_at, name_in, Tree, Node}
 use Rattle.cv_syntax.specs.Classes.{IsIndexed, IsNamed, IsNew, class_by, class_in, id_at, id_of, is_number, declaration_in, from_one}
 use Rattle.cv_pool.specs.KindTree.{KindTree}
-use Rattle.cv_syntax_trees.specs.Tree.{Tree, Node}
 use Rattle.cv_syntax.specs.PoolTrees.{tree_of, tree_at}
 use Rattle.cv_syntax_trees.specs.declared.head.Head.{Head}
 use Rattle.cv_syntax_trees.specs.declared.head.Head.TheVariants.{Name}
 use Rattle.cv_syntax.specs.declared.open.Opened.{Opened}
-use Rattle.cv_lists.proofs.Tests.{equals_refl}
+use Rattle.cv_syntax_trees.proofs.lists.Tests.{equals_refl}
 
 eq_true : (x y : ℕ) → (x == y) ≡ true → x ≡ y
 eq_true x y e = eqb-true x y e

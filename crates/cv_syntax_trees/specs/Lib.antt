@@ -3,3 +3,5 @@ pub mod Children
 pub mod Declarations
 pub mod Head
 pub mod Tree
+pub mod sites
+pub mod lists

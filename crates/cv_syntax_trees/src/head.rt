@@ -172,7 +172,7 @@ pub enum Head {
     // The right side of a correspondence with alternatives.
     /// Two right sides of which one must be met. It weighs nothing.
     SomeOf,
-    /// The part `alt` of a certificate: the number of the alternative, and the routes of its atoms.
+    /// The part `alt` of a certificate: the number of the alternative. It stands before the routes of its atoms.
     AlternativePart,
 }
 

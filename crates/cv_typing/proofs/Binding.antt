@@ -7,11 +7,11 @@ use Rattle.cv_syntax_trees.specs.declared.head.Head.TheVariants.{Let, New}
 use Rattle.cv_syntax_trees.specs.Tree.{Tree, Empty, Node, first, second}
 use Rattle.cv_typing.specs.declared.locals.Own.{Own}
 use Rattle.cv_scope_rules.specs.declared.typing.precedence.Precedence.TheVariants.{First}
-use Rattle.cv_directory_sorts.specs.declared.sort.Sort.{Sort}
-use Rattle.cv_directory_sorts.specs.declared.sort.Sort.TheVariants.{OfType}
+use Rattle.cv_syntax_trees.specs.declared.sites.sort.Sort.{Sort}
+use Rattle.cv_syntax_trees.specs.declared.sites.sort.Sort.TheVariants.{OfType}
 use Rattle.cv_scope_rules.specs.typing.Parts.{bound_at, local_here, local_in, nothing_above, own_sort, sort_by_bound, with_taken}
 use Rattle.cv_scope_rules.specs.typing.Signature.{Above}
-use Rattle.cv_directory_sorts.specs.Sites.{first_of}
+use Rattle.cv_syntax_trees.specs.sites.Sites.{first_of}
 use Rattle.cv_typing.specs.Tables.{ByBound, above_of, and_else, by_bound_in, with_body, with_function, with_functions, with_here}
 use Rattle.cv_scope_rules.specs.typing.Wants.{bound}
 use Rattle.cv_directory.proofs.Entries.{first_nothing, first_assoc}

@@ -9,11 +9,11 @@ use Rattle.cv_scope_rules.specs.declared.typing.fault.Fault.TheVariants as fault
 use Rattle.cv_scope_rules.specs.declared.typing.fault.TypeFault.{TypeFault}
 use Rattle.cv_scope_rules.specs.declared.typing.fault.TypeFault.TheVariants as refused
 use Rattle.cv_scope_rules.specs.declared.typing.form.Form.TheVariants.{InBody}
-use Rattle.cv_directory_sorts.specs.declared.sort.Sort.{Sort}
+use Rattle.cv_syntax_trees.specs.declared.sites.sort.Sort.{Sort}
 use Rattle.cv_scope_rules.specs.typing.Parts.{Part, signature_of, first_in, body_parts, first_result, in_function, more_results, names_of, results}
 use Rattle.cv_scope_rules.specs.typing.Refusals.{IsChecked, IsRefusalOf, parts_size}
 use Rattle.cv_scope_rules.specs.typing.Signature.{Above, Arrays, OfGame, OfNothing, OfSide, Signature, sort_of}
-use Rattle.cv_directory_sorts.specs.Sites.{first_of}
+use Rattle.cv_syntax_trees.specs.sites.Sites.{first_of}
 use Rattle.cv_scope_rules.specs.typing.Typing.{first_fault}
 use Rattle.cv_scope_rules.specs.typing.Wants.{Run}
 use Rattle.cv_typing.proofs.Files.{part_refused, part_step, parts_end}

@@ -13,12 +13,12 @@ use Rattle.cv_scope_rules.specs.declared.typing.fault.Fault.{Fault}
 use Rattle.cv_scope_rules.specs.declared.typing.fault.Fault.TheVariants as fault
 use Rattle.cv_scope_rules.specs.declared.typing.fault.TypeFault.{TypeFault}
 use Rattle.cv_scope_rules.specs.declared.typing.fault.TypeFault.TheVariants as refused
-use Rattle.cv_directory_sorts.specs.declared.sort.Sort.{Sort}
+use Rattle.cv_syntax_trees.specs.declared.sites.sort.Sort.{Sort}
 use Rattle.cv_typing.specs.Lookups.{HasLiveArguments}
 use Rattle.cv_directory.specs.Live.{IsLive}
 use Rattle.cv_scope_rules.specs.typing.Parts.{Part, IsTypedPart, signature_of, first_in, nothing_above}
 use Rattle.cv_scope_rules.specs.typing.Refusals.{IsFirstRefusal, IsRefusalOf}
-use Rattle.cv_directory_sorts.specs.Sites.{first_of}
+use Rattle.cv_syntax_trees.specs.sites.Sites.{first_of}
 use Rattle.cv_typing.specs.Tables.{Map, above_of}
 use Rattle.cv_scope_rules.specs.typing.Typing.{first_fault}
 use Rattle.cv_scope_rules.proofs.typing.First.{finds_first_in, parts_typed_where_none, game_alone}

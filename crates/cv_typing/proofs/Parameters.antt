@@ -2,7 +2,7 @@
 use Rattle.std.proofs.Common.{◌≡◌, ℕ, zero, suc, ◌+◌, List, [], ◌∷◌, drop, refl, ap, sym, ◌∙◌, arith, Option, Some, None, option_and_then}
 use Rattle.std.specs.Prelude.{slice_get}
 use Rattle.cv_typing.specs.Lookups.{parameters_of}
-use Rattle.cv_directory_sorts.specs.Sites.{Variable}
+use Rattle.cv_syntax_trees.specs.sites.Sites.{Variable}
 
 pub drop_some : {A : Type 0} (xs : List A) (k : ℕ) (n : A) → slice_get xs k ≡ Some n → drop k xs ≡ n ∷ drop (k + 1) xs
 drop_some [] k n e = absurd (cc)

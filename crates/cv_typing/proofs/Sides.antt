@@ -11,7 +11,7 @@ use Rattle.cv_syntax_trees.specs.Tree.{Tree, Node, first, second}
 use Rattle.cv_pool.specs.KindTree.{KindTree}
 use Rattle.cv_scope_rules.specs.declared.typing.fault.Fault.{Fault}
 use Rattle.cv_scope_rules.specs.declared.typing.fault.TypeFault.{TypeFault}
-use Rattle.cv_directory_sorts.specs.declared.sort.Sort.{Sort}
+use Rattle.cv_syntax_trees.specs.declared.sites.sort.Sort.{Sort}
 use Rattle.cv_scope_rules.specs.typing.Parts.{Part, AreTyped, first_in, body_parts, declaration_parts, equivalence_parts, file_parts, game_part, results, side_arrays}
 use Rattle.cv_scope_rules.specs.typing.Refusals.{IsChecked, IsRefusalOf}
 use Rattle.cv_scope_rules.specs.typing.Signature.{Arrays}

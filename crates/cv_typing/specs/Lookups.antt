@@ -14,7 +14,7 @@ use Rattle.cv_typing.specs.declared.function.Callee.{Callee}
 use Rattle.cv_scope_rules.specs.declared.typing.want.Want.{Want}
 use Rattle.cv_scope_rules.specs.declared.typing.want.Want.TheVariants as asked
 use Rattle.cv_scope_rules.specs.typing.Signature.{Signature, Function, names_in, variable_in}
-use Rattle.cv_directory_sorts.specs.Sites.{Variable}
+use Rattle.cv_syntax_trees.specs.sites.Sites.{Variable}
 use Rattle.cv_typing.specs.Tables.{arrays_of}
 use Rattle.cv_scope_rules.specs.typing.Wants as wants
 

@@ -5,7 +5,7 @@ use Rattle.std.specs.declared.hash.BuildHasherDefault.{BuildHasherDefault}
 use Rattle.std.specs.HashMap.{get, HashMap}
 use Rattle.cv_syntax_trees.specs.declared.head.Head.{Head}
 use Rattle.cv_syntax_trees.specs.Tree.{Tree, first, second}
-use Rattle.cv_directory_sorts.specs.declared.sort.Sort.{Sort}
+use Rattle.cv_syntax_trees.specs.declared.sites.sort.Sort.{Sort}
 use Rattle.cv_typing.specs.declared.arrays.Arrays.{Arrays}
 use Rattle.cv_typing.specs.declared.arrays.Arrays.TheVariants as held
 use Rattle.cv_typing.specs.declared.locals.Locals.{Locals}
@@ -14,7 +14,7 @@ use Rattle.cv_scope_rules.specs.typing.Signature as signature
 use Rattle.cv_scope_rules.specs.typing.Signature.{Above}
 use Rattle.cv_directory.specs.declared.directory.Directory.{Directory}
 use Rattle.cv_directory.specs.Tables.{seen}
-use Rattle.cv_directory_sorts.specs.Sites.{first_of}
+use Rattle.cv_syntax_trees.specs.sites.Sites.{first_of}
 use Rattle.cv_scope_rules.specs.typing.Parts.{bound_at, local_here, local_in, own_sort, sort_by_bound}
 
 abbrev pub Map : Type 0 → Type 0

@@ -1,15 +1,15 @@
 ghost use Rattle.std.specs.Prelude.{◌≡◌, ◌<◌, ◌∷◌, [], length, IfOk, OnOk};
 ghost use Rattle.cv_pool.specs.Nodes.{ChildBelow};
 ghost use Rattle.cv_syntax.specs.PoolTrees.{tree_at};
-ghost use Rattle.cv_directory_sorts.specs.Sites.{binder_sort};
+ghost use Rattle.cv_syntax_trees.specs.sites.Sites.{binder_sort};
 ghost use Rattle.cv_typing.specs.Tables.{above_of, restored};
 ghost use Rattle.cv_scope_rules.specs.declared.typing.precedence.Precedence.TheVariants.{Newest};
 ghost use Rattle.cv_scope_rules.specs.typing.Wants.{all_bound, bound as with_bound, with_names};
 
 use cv_directory::sort_of_binder;
-use cv_directory_sorts::Sort;
 use cv_scope_rules::typing::Precedence;
 use cv_syntax::{Head, NodeId, Pool, read_node};
+use cv_syntax_trees::sites::Sort;
 use std::alloc::{AllocError, Global};
 use std::collections::HashMap;
 

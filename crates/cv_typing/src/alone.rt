@@ -2,7 +2,7 @@ ghost use Rattle.std.specs.Prelude.{◌≡◌, ◌<◌, ◌^◌, All, not, is_so
 ghost use Rattle.cv_syntax.specs.Declarations.{declarations};
 ghost use Rattle.cv_syntax_trees.specs.Tree.{size};
 ghost use Rattle.cv_syntax.specs.PoolTrees.{tree_at};
-ghost use Rattle.cv_directory_sorts.specs.Sites.{sites_of};
+ghost use Rattle.cv_syntax_trees.specs.sites.Sites.{sites_of};
 ghost use Rattle.cv_directory.specs.Tables.{seen};
 ghost use Rattle.cv_typing.specs.Lookups.{signature_in};
 ghost use Rattle.cv_directory.specs.Live.{IsLive};
@@ -16,9 +16,9 @@ use crate::arrays::Arrays;
 use crate::checking::check_process;
 use crate::walk::walk;
 use cv_directory::Directory;
-use cv_directory_sorts::Sort;
 use cv_scope_rules::typing::Want;
 use cv_syntax::{NodeId, Work};
+use cv_syntax_trees::sites::Sort;
 use std::alloc::{AllocError, Global};
 use std::collections::HashMap;
 

@@ -1,15 +1,15 @@
 ghost use Rattle.std.specs.Prelude.{◌≡◌, ◌<◌, ◌^◌, ◌+◌, length, drop, slice_get, option_map, option_and_then, OnOk, OnSome};
 ghost use Rattle.cv_pool.specs.Nodes.{ChildBelow};
 ghost use Rattle.cv_syntax.specs.PoolTrees.{tree_at};
-ghost use Rattle.cv_directory_sorts.specs.Sites.{Variable};
+ghost use Rattle.cv_syntax_trees.specs.sites.Sites.{Variable};
 ghost use Rattle.cv_scope_rules.specs.typing.Parts.{in_function};
 ghost use Rattle.cv_scope_rules.specs.typing.Signature.{defined_sort, index_in, variable_in, variable_sort as sort_of_variable};
 ghost use Rattle.cv_typing.specs.Tables.{arrays_of, directory_in};
 
 use crate::locals::{Locals, own_names};
 use cv_directory::Directory;
-use cv_directory_sorts::Sort;
 use cv_syntax::{NodeId, Pool};
+use cv_syntax_trees::sites::Sort;
 use std::alloc::{AllocError, Global};
 use std::collections::HashMap;
 

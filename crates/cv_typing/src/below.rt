@@ -13,9 +13,9 @@ ghost use Rattle.cv_scope_rules.specs.typing.Wants as wants;
 use crate::arrays::Arrays;
 use crate::function::{event_arguments, find_function};
 use crate::terms::sort_of_term;
-use cv_directory_sorts::Sort;
 use cv_scope_rules::typing::{Form, Want};
 use cv_syntax::{Decls, Head, NodeId, Opened, Pool, read_node};
+use cv_syntax_trees::sites::Sort;
 use std::collections::HashMap;
 
 /// A term of a sort, or any term where it isn't known.

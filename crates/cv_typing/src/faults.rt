@@ -5,9 +5,9 @@ ghost use Rattle.cv_typing.specs.declared.arrays.Arrays.{Arrays};
 ghost use Rattle.cv_syntax.specs.Declarations.{declarations};
 ghost use Rattle.cv_syntax.specs.PoolTrees.{tree_at};
 ghost use Rattle.cv_typing.specs.Lookups.{HasLiveArguments, signature_in, want_of};
-ghost use Rattle.cv_directory_sorts.specs.Counting as counting;
+ghost use Rattle.cv_syntax_trees.specs.sites.Counting as counting;
 ghost use Rattle.cv_scope_rules.specs.typing.Signature.{is_arity};
-ghost use Rattle.cv_directory_sorts.specs.Sites.{binder_sort};
+ghost use Rattle.cv_syntax_trees.specs.sites.Sites.{binder_sort};
 ghost use Rattle.cv_typing.specs.Tables.{above_of, arrays_of};
 ghost use Rattle.cv_scope_rules.specs.typing.Typing as typing;
 ghost use Rattle.cv_scope_rules.specs.typing.Wants as wants;
@@ -16,10 +16,10 @@ use crate::arrays::Arrays;
 use crate::function::{count, is_fixed};
 use crate::terms::{arity_of_head, sort_of_head};
 use cv_directory::sort_of_binder;
-use cv_directory_sorts::{Sort, differs_from, same_sort};
 use cv_scope_rules::typing::{Fault, Form, Want};
 use cv_syntax::children::second_of;
 use cv_syntax::{Decls, Head, NodeId, Opened, Pool, read_node};
+use cv_syntax_trees::sites::{Sort, differs_from, same_sort};
 use std::collections::HashMap;
 
 /// Whether a sort is that of indices.

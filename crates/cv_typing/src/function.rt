@@ -3,7 +3,7 @@ ghost use Rattle.cv_pool.specs.Nodes.{ChildBelow};
 ghost use Rattle.cv_syntax.specs.Classes.{declaration_in};
 ghost use Rattle.cv_syntax.specs.PoolTrees.{tree_at};
 ghost use Rattle.cv_typing.specs.Lookups.{callee_in, event_args_in, fixed_decl};
-ghost use Rattle.cv_directory_sorts.specs.Counting as counting;
+ghost use Rattle.cv_syntax_trees.specs.sites.Counting as counting;
 ghost use Rattle.cv_scope_rules.specs.typing.Signature.{names_in};
 
 use cv_syntax::{Class, Decl, Decls, Head, NameId, NodeId, Pool, read_node};

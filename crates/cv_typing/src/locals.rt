@@ -8,10 +8,10 @@ ghost use Rattle.cv_typing.specs.Tables.{above_of, locals_of, with_body, with_fu
 ghost use Rattle.cv_scope_rules.specs.typing.Wants.{bound as with_bound};
 
 use crate::above::bind_all;
-use cv_directory_sorts::Sort;
 use cv_scope_rules::typing::Precedence;
 use cv_syntax::children::{first_of, second_of};
 use cv_syntax::{Head, NodeId, Pool, read_node};
+use cv_syntax_trees::sites::Sort;
 use std::alloc::{AllocError, Global};
 use std::collections::HashMap;
 

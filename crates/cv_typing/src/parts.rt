@@ -13,10 +13,10 @@ use crate::arrays::Arrays;
 use crate::locals::{Locals, bind_taken};
 use crate::terms::sort_of_term;
 use crate::walk::walk;
-use cv_directory_sorts::Sort;
 use cv_scope_rules::typing::{Form, Precedence, TypeFault, Want};
 use cv_syntax::children::{first_of, second_of};
 use cv_syntax::{Decl, Decls, NodeId, Pool, read_node};
+use cv_syntax_trees::sites::Sort;
 use std::alloc::{AllocError, Global};
 use std::collections::HashMap;
 

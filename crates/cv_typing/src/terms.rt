@@ -5,14 +5,14 @@ ghost use Rattle.cv_syntax.specs.Declarations.{declarations};
 ghost use Rattle.cv_pool.specs.KindTree.{KindTree};
 ghost use Rattle.cv_typing.specs.Lookups.{HasLiveArguments, signature_in};
 ghost use Rattle.cv_scope_rules.specs.typing.Signature as signature;
-ghost use Rattle.cv_directory_sorts.specs.declared.sort.Sort.TheVariants.{OfType};
+ghost use Rattle.cv_syntax_trees.specs.declared.sites.sort.Sort.TheVariants.{OfType};
 ghost use Rattle.cv_typing.specs.Tables.{above_of, arrays_of};
 
 use crate::arrays::Arrays;
 use crate::function::{count_names, event_arguments, find_function};
-use cv_directory_sorts::Sort;
 use cv_syntax::children::first_of;
 use cv_syntax::{Decls, Head, NodeId, Pool, read_node};
+use cv_syntax_trees::sites::Sort;
 use std::collections::HashMap;
 
 /// The sort of what a function gives.

@@ -11,9 +11,9 @@ use crate::above::{bind_names, unbind};
 use crate::arrays::Arrays;
 use crate::below::{binds, wants_below};
 use crate::faults::own_fault;
-use cv_directory_sorts::Sort;
 use cv_scope_rules::typing::{TypeFault, Want};
 use cv_syntax::{Decls, NodeId, Pool, read_node};
+use cv_syntax_trees::sites::Sort;
 use std::alloc::Global;
 use std::collections::HashMap;
 

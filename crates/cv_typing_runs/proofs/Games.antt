@@ -22,7 +22,7 @@ use Rattle.cv_scope_rules.specs.Standing.{at_root}
 use Rattle.cv_scope_rules.specs.Phrases.{Inputs, IsWellFormed}
 use Rattle.cv_scope_rules.specs.declared.typing.form.Form.TheVariants.{InProcess}
 use Rattle.cv_scope_rules.specs.typing.Parts.{IsTypedGame, nothing_above}
-use Rattle.cv_directory_sorts.specs.Sites.{Variable, first_of, first_site}
+use Rattle.cv_syntax_trees.specs.sites.Sites.{Variable, first_of, first_site}
 use Rattle.cv_scope_rules.specs.typing.Wants.{Run}
 use Rattle.cv_typing_runs.specs.Games.{HasArguments, HasConstants, HasNamedFunctionsAndCells, HasDeclaredSorts, HasKnownNames, context_of, has_site}
 use Rattle.cv_typing_runs.proofs.InScope.{in_scope_known}

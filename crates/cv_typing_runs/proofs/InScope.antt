@@ -8,7 +8,7 @@ use Rattle.cv_syntax_trees.specs.declared.head.Head.TheVariants.{Apply, Branch, 
 use Rattle.cv_syntax_trees.specs.Declarations.{Declaration}
 use Rattle.cv_syntax_trees.specs.Tree.{Tree, Empty, Node, second, first_place, second_place}
 use Rattle.cv_meaning.specs.Binders.{bound_names}
-use Rattle.cv_directory_sorts.specs.Sites.{Variable, first_site}
+use Rattle.cv_syntax_trees.specs.sites.Sites.{Variable, first_site}
 use Rattle.cv_scope_rules.specs.typing.Signature.{function_in}
 use Rattle.cv_scope_rules.specs.declared.fault.Fault.TheVariants.{Unscoped}
 use Rattle.cv_scope_rules.specs.declared.position.Position.{Position}
@@ -20,7 +20,7 @@ use Rattle.cv_scope_rules.specs.Sites.{Variable as Named, channel_here, named_he
 use Rattle.cv_scope_rules.specs.Standing.{Standing, at_root, first_standing, second_standing}
 use Rattle.cv_typing_runs.specs.Games.{HasConstants, are_known, are_named, are_variable_cells, has_site, is_known, is_named, is_variable_cell}
 use Rattle.cv_typing_runs.proofs.SameSites.{Agrees, Stands}
-use Rattle.cv_lists.proofs.Each.{AllByRecursion_append, AllByRecursion_left, AllByRecursion_right}
+use Rattle.cv_syntax_trees.proofs.lists.Each.{AllByRecursion_append, AllByRecursion_left, AllByRecursion_right}
 use Rattle.cv_scope_rules.proofs.Apart.{first_replications, second_replications}
 
 module _ (ds : List Declaration) (game : Tree) (constants : HasConstants ds) where

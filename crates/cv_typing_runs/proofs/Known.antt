@@ -11,7 +11,7 @@ use Rattle.cv_scope_rules.specs.Context.{replications_below}
 use Rattle.cv_scope_rules.specs.Rules.{is_index}
 use Rattle.cv_scope_rules.specs.typing.Signature.{function_in}
 use Rattle.cv_typing_runs.specs.Games.{are_known, is_known}
-use Rattle.cv_lists.proofs.Tests.{or_cases}
+use Rattle.cv_syntax_trees.proofs.lists.Tests.{or_cases}
 
 abbrev pub IsKnown : List Declaration → (variable : ℕ → Bool) → Scope → Head → Type 0
 IsKnown ds variable rs (Leaf x) = (is_index rs x ≡ true) ⊎ ((is_some (function_in ds x) ≡ true) ⊎ (variable x ≡ true))

@@ -9,11 +9,11 @@ use Rattle.cv_meaning.specs.Interpretation.{Interpretation}
 use Rattle.cv_meaning.specs.Satisfies.{Satisfies}
 use Rattle.cv_meaning_laws.specs.adequacy.Typed as meaning
 use Rattle.cv_meaning_laws.specs.adequacy.Typed.{IsDeclared, IsModel}
-use Rattle.cv_directory_sorts.specs.declared.sort.Sort.{Sort}
-use Rattle.cv_directory_sorts.specs.declared.sort.Sort.TheVariants.{BelowParameter, OfType}
-use Rattle.cv_directory_sorts.specs.Sites.{Variable, at_parameters, bound_sort, first_of, first_site, parameters_below, site_here}
+use Rattle.cv_syntax_trees.specs.declared.sites.sort.Sort.{Sort}
+use Rattle.cv_syntax_trees.specs.declared.sites.sort.Sort.TheVariants.{BelowParameter, OfType}
+use Rattle.cv_syntax_trees.specs.sites.Sites.{Variable, at_parameters, bound_sort, first_of, first_site, parameters_below, site_here}
 use Rattle.cv_typing_runs.specs.Games.{AreDeclared, HasDeclaredSorts, NamesDeclared, context_of, sort_of_meaning, variable_of_meaning}
-use Rattle.cv_lists.proofs.Options.{none_some}
+use Rattle.cv_syntax_trees.proofs.lists.Options.{none_some}
 
 bound_declared : (ds : List Declaration) (sort : ℕ → Sort) (x : ℕ) (S : Sort) (t : Tree) → AreDeclared ds sort t → bound_sort sort x t ≡ Some S → IsDeclared ds (sort_of_meaning S)
 unfolding AreDeclared bound_sort

@@ -17,13 +17,13 @@ use Rattle.cv_scope_rules.specs.Sites.{Site, Variable as Named, channel_here, na
 use Rattle.cv_scope_rules.specs.Standing.{Standing, first_standing, second_standing}
 use Rattle.cv_scope_rules.specs.Phrases.{Phrase, Arm, Binders, Inputs, Pattern, both_are, is_phrase, parts}
 use Rattle.cv_scope_rules.proofs.Plain.{phrase_plain}
-use Rattle.cv_directory_sorts.specs.declared.sort.Sort.{Sort}
-use Rattle.cv_directory_sorts.specs.declared.sort.Sort.TheVariants.{BelowParameter, OfType}
-use Rattle.cv_directory_sorts.specs.Sites.{Variable, at_parameters, bound_sort, first_of, first_site, parameters_below, site_here}
+use Rattle.cv_syntax_trees.specs.declared.sites.sort.Sort.{Sort}
+use Rattle.cv_syntax_trees.specs.declared.sites.sort.Sort.TheVariants.{BelowParameter, OfType}
+use Rattle.cv_syntax_trees.specs.sites.Sites.{Variable, at_parameters, bound_sort, first_of, first_site, parameters_below, site_here}
 use Rattle.cv_typing_runs.specs.Games.{parameters_of}
 use Rattle.cv_scope_rules.proofs.Apart.{first_replications, second_replications}
-use Rattle.cv_lists.proofs.Options.{none_some}
-use Rattle.cv_lists.proofs.Each.{AllByRecursion_append}
+use Rattle.cv_syntax_trees.proofs.lists.Options.{none_some}
+use Rattle.cv_syntax_trees.proofs.lists.Each.{AllByRecursion_append}
 
 -- phrases
 

@@ -14,12 +14,12 @@ use Rattle.cv_scope_rules.specs.Rules.{is_index}
 use Rattle.cv_scope_rules.specs.Phrases.{Phrase, Nil, Term, Terms, binds_none, is_phrase}
 use Rattle.cv_scope_rules.proofs.Unbound.{no_variable}
 use Rattle.cv_scope_rules.specs.declared.typing.fault.Fault.TheVariants.{Arity, IndexAsMessage, NotFixed, WrongType}
-use Rattle.cv_directory_sorts.specs.declared.sort.Sort.{Sort}
-use Rattle.cv_directory_sorts.specs.declared.sort.Sort.TheVariants.{BelowParameter, OfType}
+use Rattle.cv_syntax_trees.specs.declared.sites.sort.Sort.{Sort}
+use Rattle.cv_syntax_trees.specs.declared.sites.sort.Sort.TheVariants.{BelowParameter, OfType}
 use Rattle.cv_scope_rules.specs.typing.Signature.{Above, Function, OfGame, Signature, arity_by, boolean, function_in, is_arity, leaf_arity, leaf_sort, sort_by, sort_of}
-use Rattle.cv_directory_sorts.specs.Sorts.{same_sort}
-use Rattle.cv_directory_sorts.specs.Counting.{count}
-use Rattle.cv_directory_sorts.specs.Sites.{Variable, first_of, first_index, first_site, sites_of}
+use Rattle.cv_syntax_trees.specs.sites.Sorts.{same_sort}
+use Rattle.cv_syntax_trees.specs.sites.Counting.{count}
+use Rattle.cv_syntax_trees.specs.sites.Sites.{Variable, first_of, first_index, first_site, sites_of}
 use Rattle.cv_scope_rules.specs.typing.Typing.{IsTyped, fault_of, is_unfixed, site_differs}
 use Rattle.cv_scope_rules.specs.typing.Wants.{Indices, Messages, Of, Message, Want, asks_indices, is_index_sent, is_wrong, like, wants, wants_arguments}
 use Rattle.cv_typing_runs.specs.Games.{HasArguments, context_of, has_site, sort_of_meaning, variable_of_meaning}

@@ -14,18 +14,18 @@ use Rattle.cv_scope_rules.specs.Sites.{channel_here, sites_from, sites_here, var
 use Rattle.cv_scope_rules.specs.Phrases.{Phrase, Arm, Binders, Body, Branches as BranchesPhrase, Cells, Else, Guarded as GuardedPhrase, Guards, Indices, Inputs, Message as MessagePhrase, Nil, OneCell, Pattern, Term, Terms, Then, binds_none, is_phrase}
 use Rattle.cv_scope_rules.specs.declared.typing.form.Form.TheVariants.{InProcess}
 use Rattle.cv_scope_rules.specs.declared.typing.precedence.Precedence.TheVariants.{First}
-use Rattle.cv_directory_sorts.specs.declared.sort.Sort.{Sort}
-use Rattle.cv_directory_sorts.specs.declared.sort.Sort.TheVariants.{BelowParameter, OfType}
+use Rattle.cv_syntax_trees.specs.declared.sites.sort.Sort.{Sort}
+use Rattle.cv_syntax_trees.specs.declared.sites.sort.Sort.TheVariants.{BelowParameter, OfType}
 use Rattle.cv_scope_rules.specs.typing.Signature.{Above, OfGame, Signature, boolean, variable_sort}
-use Rattle.cv_directory_sorts.specs.Sites.{Variable, first_of, first_site, sites_of}
+use Rattle.cv_syntax_trees.specs.sites.Sites.{Variable, first_of, first_site, sites_of}
 use Rattle.cv_scope_rules.specs.typing.Typing.{IsTyped, binders_differ}
-use Rattle.cv_directory_sorts.specs.Sorts.{differs_from}
+use Rattle.cv_syntax_trees.specs.sites.Sorts.{differs_from}
 use Rattle.cv_scope_rules.specs.typing.Wants.{AllMessages, Branches, EachTerm, Guarded, Message, Of, Run, Sent, Tested, Want, above_second, bound, wants}
 use Rattle.cv_typing_runs.specs.Games.{HasArguments, context_of, has_site, sort_of_meaning, variable_of_meaning}
 use Rattle.cv_typing_runs.proofs.Known.{AreKnown}
 use Rattle.cv_typing_runs.proofs.SameSites.{Agrees, Stands, input_binders}
 use Rattle.cv_typing_runs.proofs.Terms.{Matches, asked_sort, faultless, message_sort, nil_empty, same_sorts, some_have, sorted}
-use Rattle.cv_lists.proofs.Each.{AllByRecursion_left, AllByRecursion_right}
+use Rattle.cv_syntax_trees.proofs.lists.Each.{AllByRecursion_left, AllByRecursion_right}
 
 -- indices in scope
 

@@ -3,10 +3,10 @@ use Rattle.std.proofs.Common.{true, false, [], inl, inr, None, refl}
 use Rattle.std.proofs.lemmas.Bool.{both_ways}
 use Rattle.cv_syntax.specs.faults.Walk.{first_fault}
 use Rattle.cv_syntax_trees.specs.Tree.{Empty, size, same_tree}
-use Rattle.cv_directory_sorts.specs.Sites.{bound_sort, first_index, first_site}
+use Rattle.cv_syntax_trees.specs.sites.Sites.{bound_sort, first_index, first_site}
 use Rattle.cv_scope_rules.specs.typing.Parts.{IsTypedGame, game_part, signature_of}
 use Rattle.cv_scope_rules.specs.typing.Signature.{names_in}
-use Rattle.cv_directory_sorts.specs.Counting.{count}
+use Rattle.cv_syntax_trees.specs.sites.Counting.{count}
 use Rattle.cv_scope_rules.specs.typing.Typing.{binders_differ}
 use Rattle.cv_scope_rules.proofs.typing.First.{typed_where_none}
 use Rattle.cv_scope_rules.specs.Sites.{sites_from}

@@ -18,10 +18,10 @@ use Rattle.cv_scope_rules.specs.Rules.{is_index}
 use Rattle.cv_scope_rules.specs.declared.position.Position.{Position}
 use Rattle.cv_scope_rules.specs.declared.position.Position.TheVariants.{Anywhere, Guards}
 use Rattle.cv_scope_rules.specs.Context.{first_position, replications_below, second_position}
-use Rattle.cv_directory_sorts.specs.declared.sort.Sort.{Sort}
-use Rattle.cv_directory_sorts.specs.declared.sort.Sort.TheVariants.{BelowParameter, OfType}
+use Rattle.cv_syntax_trees.specs.declared.sites.sort.Sort.{Sort}
+use Rattle.cv_syntax_trees.specs.declared.sites.sort.Sort.TheVariants.{BelowParameter, OfType}
 use Rattle.cv_scope_rules.specs.typing.Signature.{function_in, names_in}
-use Rattle.cv_directory_sorts.specs.Sites.{Variable, first_site}
+use Rattle.cv_syntax_trees.specs.sites.Sites.{Variable, first_site}
 
 -- the parameters of replications
 abbrev pub parameters_of : Scope → List ℕ

@@ -5,9 +5,9 @@ use Rattle.std.specs.Prelude.{option_map}
 use Rattle.cv_syntax_trees.specs.declared.head.Head.{Head}
 use Rattle.cv_syntax_trees.specs.declared.head.Head.TheVariants.{Binder, Branch, In, Let, New}
 use Rattle.cv_syntax_trees.specs.Tree.{Tree, Empty, Node, second}
-use Rattle.cv_directory_sorts.specs.declared.sort.Sort.{Sort}
-use Rattle.cv_directory_sorts.specs.declared.sort.Sort.TheVariants.{BelowParameter, OfType}
-use Rattle.cv_directory_sorts.specs.Sites.{Variable, at_parameters, bound_sort, first_of, first_site, parameters_below, site_here, sites_of}
+use Rattle.cv_syntax_trees.specs.declared.sites.sort.Sort.{Sort}
+use Rattle.cv_syntax_trees.specs.declared.sites.sort.Sort.TheVariants.{BelowParameter, OfType}
+use Rattle.cv_syntax_trees.specs.sites.Sites.{Variable, at_parameters, bound_sort, first_of, first_site, parameters_below, site_here, sites_of}
 use Rattle.cv_scope_rules.specs.typing.Signature.{OfGame, variable_sort}
 use Rattle.cv_scope_rules.specs.Context.{replications_below}
 use Rattle.cv_scope_rules.specs.Made.{is_bound, made_by}
@@ -15,7 +15,7 @@ use Rattle.cv_scope_rules.specs.Phrases.{Phrase, Binders, Inputs, Nil, is_phrase
 use Rattle.cv_scope_rules.specs.Sites.{Variable as Named}
 use Rattle.cv_typing_runs.proofs.SameSites.{branch_binders, input_binders, phrase_open}
 use Rattle.cv_scene.specs.Refusals.{definitions_in, new_of, only_new}
-use Rattle.cv_lists.proofs.Tests.{differ_comm}
+use Rattle.cv_syntax_trees.proofs.lists.Tests.{differ_comm}
 
 abbrev Definition : Type 0
 Definition = Head × List (ℕ × ℕ)

@@ -7,12 +7,12 @@ use Rattle.cv_syntax_trees.specs.declared.head.Head.TheVariants.{And, Apply, Bra
 use Rattle.cv_syntax_trees.specs.Declarations.{Declaration}
 use Rattle.cv_syntax_trees.specs.Tree.{Tree, Empty, Node}
 use Rattle.cv_syntax.specs.faults.Walk.{IsObeyed}
-use Rattle.cv_directory_sorts.specs.declared.sort.Sort.{Sort}
-use Rattle.cv_directory_sorts.specs.declared.sort.Sort.TheVariants.{BelowParameter, OfType}
-use Rattle.cv_directory_sorts.specs.Sites.{Variable, first_index, first_of, first_site, sites_of}
+use Rattle.cv_syntax_trees.specs.declared.sites.sort.Sort.{Sort}
+use Rattle.cv_syntax_trees.specs.declared.sites.sort.Sort.TheVariants.{BelowParameter, OfType}
+use Rattle.cv_syntax_trees.specs.sites.Sites.{Variable, first_index, first_of, first_site, sites_of}
 use Rattle.cv_scope_rules.specs.declared.typing.form.Form.TheVariants.{InBody, InProcess}
 use Rattle.cv_scope_rules.specs.typing.Signature.{Above, Function, OfGame, Signature, function_in, is_arity, leaf_sort, sort_of, variable_sort}
-use Rattle.cv_directory_sorts.specs.Counting.{count}
+use Rattle.cv_syntax_trees.specs.sites.Counting.{count}
 use Rattle.cv_scope_rules.specs.typing.Typing.{IsTyped}
 use Rattle.cv_scope_rules.specs.typing.Wants.{Atoms, Branches, Correspondence, Guarded, Indices, Messages, Of, Run, Tested, Want, above_second, asks_indices, atom_wants, branch_wants, is_in_body, like, list_wants, on_list, place_wants, query_wants, run_wants, wants, wants_arguments}
 use Rattle.cv_scope_rules.specs.Context.{replications_below}

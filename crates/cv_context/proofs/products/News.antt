@@ -7,9 +7,9 @@ use Rattle.std.specs.Prelude.{option_and_then, option_map, slice_get}
 use Rattle.cv_syntax_trees.specs.declared.head.Head.{Head}
 use Rattle.cv_syntax_trees.specs.declared.head.Head.TheVariants.{Binder, Branch, Call, In, Key, Let, New}
 use Rattle.cv_syntax_trees.specs.Tree.{Tree, Empty, Node, second}
-use Rattle.cv_directory_sorts.specs.declared.sort.Sort.{Sort}
-use Rattle.cv_directory_sorts.specs.declared.sort.Sort.TheVariants.{BelowParameter, OfType}
-use Rattle.cv_directory_sorts.specs.Sites.{Variable, at_parameters, bound_sort, SitesView, first_of, first_site, parameters_below, site_here, sites_of}
+use Rattle.cv_syntax_trees.specs.declared.sites.sort.Sort.{Sort}
+use Rattle.cv_syntax_trees.specs.declared.sites.sort.Sort.TheVariants.{BelowParameter, OfType}
+use Rattle.cv_syntax_trees.specs.sites.Sites.{Variable, at_parameters, bound_sort, SitesView, first_of, first_site, parameters_below, site_here, sites_of}
 use Rattle.cv_scope_rules.specs.Context.{replications_below}
 use Rattle.cv_scope_rules.specs.Made.{is_bound, made_by}
 use Rattle.cv_scope_rules.specs.Phrases.{Phrase, Binders, Inputs, Nil, is_phrase}
@@ -19,7 +19,7 @@ use Rattle.cv_typing_runs.proofs.SameSites.{below_parameters, branch_binders, in
 use Rattle.cv_scene.specs.Contexts.{parameters_of}
 use Rattle.cv_scene.specs.Refusals.{definitions_in, new_of, only_new}
 use Rattle.cv_context.specs.products.Products.{parameters_by}
-use Rattle.cv_lists.proofs.Tests.{equals_comm}
+use Rattle.cv_syntax_trees.proofs.lists.Tests.{equals_comm}
 
 -- a parameter, by its number
 

@@ -6,8 +6,8 @@ use Rattle.cv_pool.specs.KindTree.{KindTree}
 use Rattle.cv_syntax_trees.specs.declared.head.Head.{Head}
 use Rattle.cv_syntax_trees.specs.Tree.{Tree, Empty, Node, second}
 use Rattle.cv_meaning.specs.contexts.Groups.{Left, side_tree}
-use Rattle.cv_directory_sorts.specs.Sites as directory
-use Rattle.cv_directory_sorts.specs.Sites.{SitesView}
+use Rattle.cv_syntax_trees.specs.sites.Sites as directory
+use Rattle.cv_syntax_trees.specs.sites.Sites.{SitesView}
 use Rattle.cv_scope_rules.specs.Phrases.{Inputs, is_phrase}
 use Rattle.cv_scene.specs.Contexts as contexts
 use Rattle.cv_scene.specs.Contexts.{matching_of, parameters_of}

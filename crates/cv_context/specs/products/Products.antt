@@ -2,7 +2,7 @@
 use Rattle.std.specs.Prelude.{ℕ, ◌==◌, List, [], map, filter, Option, Some, None}
 use Rattle.std.specs.declared.vec.Vec.{Vec}
 use Rattle.std.specs.declared.alloc.Global.{Global}
-use Rattle.cv_directory_sorts.specs.Sites.{Variable}
+use Rattle.cv_syntax_trees.specs.sites.Sites.{Variable}
 use Rattle.cv_scene.specs.Contexts.{parameters_of}
 use Rattle.cv_match_terms.specs.declared.patterns.site.Site.{Site}
 

@@ -2,7 +2,7 @@
 use Rattle.std.specs.Prelude.{◌≡◌, ℕ, true, List, map, None}
 use Rattle.cv_pool.specs.KindTree.{KindTree}
 use Rattle.cv_syntax_trees.specs.Tree.{Tree}
-use Rattle.cv_directory_sorts.specs.Sites.{SitesView, sites_of}
+use Rattle.cv_syntax_trees.specs.sites.Sites.{SitesView, sites_of}
 use Rattle.cv_scope_rules.specs.Phrases.{Inputs, is_phrase}
 use Rattle.cv_scene.specs.Contexts.{matching_of}
 use Rattle.cv_scene.specs.Refusals.{first_refusal}

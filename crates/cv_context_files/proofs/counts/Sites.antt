@@ -7,8 +7,8 @@ use Rattle.std.specs.Prelude.{slice_get}
 use Rattle.cv_syntax_trees.specs.declared.head.Head.{Head}
 use Rattle.cv_syntax_trees.specs.declared.head.Head.TheVariants.{Call as CallHead, Event, If, Let, New, Out}
 use Rattle.cv_syntax_trees.specs.Tree.{Tree, Empty, Node, first_place, second_place}
-use Rattle.cv_lists.proofs.Options.{slice_get_map}
-use Rattle.cv_lists.proofs.Places.{slice_get_append_left, slice_get_append_right}
+use Rattle.cv_syntax_trees.proofs.lists.Options.{slice_get_map}
+use Rattle.cv_syntax_trees.proofs.lists.Places.{slice_get_append_left, slice_get_append_right}
 use Rattle.cv_meaning.specs.Interpretation.{Interpretation}
 use Rattle.cv_scope_rules.specs.Context.{cell_of, first_position, replications_below, second_position}
 use Rattle.cv_scope_rules.specs.Phrases.{Body, Inputs, Message, Phrase, Term, Terms, is_oracle_phrase, is_phrase, parts}

@@ -6,15 +6,15 @@ use Rattle.cv_syntax_trees.specs.declared.head.Head.{Head}
 use Rattle.cv_syntax_trees.specs.declared.head.Head.TheVariants.{New, Let}
 use Rattle.cv_syntax_trees.specs.Declarations.{Declaration}
 use Rattle.cv_syntax_trees.specs.Tree.{Tree, Empty, Node, first, second}
-use Rattle.cv_lists.specs.Options.{first_of}
-use Rattle.cv_directory_sorts.specs.declared.sort.Sort.{Sort}
-use Rattle.cv_directory_sorts.specs.declared.sort.Sort.TheVariants.{OfType, BelowParameter}
+use Rattle.cv_syntax_trees.specs.lists.Options.{first_of}
+use Rattle.cv_syntax_trees.specs.declared.sites.sort.Sort.{Sort}
+use Rattle.cv_syntax_trees.specs.declared.sites.sort.Sort.TheVariants.{OfType, BelowParameter}
 use Rattle.cv_syntax.specs.faults.Walk.{IsObeyed}
 use Rattle.cv_scope_rules.specs.declared.typing.fault.Fault.{Fault}
 use Rattle.cv_scope_rules.specs.declared.typing.fault.Fault.TheVariants.{WrongType}
 use Rattle.cv_scope_rules.specs.typing.Parts.{AreTyped, body_parts, local_in, nothing_above, own_sort, with_taken}
 use Rattle.cv_scope_rules.specs.typing.Signature.{Above, OfSide, Signature, sort_by}
-use Rattle.cv_directory_sorts.specs.Sorts.{differs_from, same_sort}
+use Rattle.cv_syntax_trees.specs.sites.Sorts.{differs_from, same_sort}
 use Rattle.cv_scope_rules.specs.typing.Typing.{IsTyped, fault_of, site_differs}
 use Rattle.cv_scope_rules.specs.typing.Wants.{Want, is_wrong}
 use Rattle.cv_meaning.specs.contexts.Groups.{Function, functions_of}

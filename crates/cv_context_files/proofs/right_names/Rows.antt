@@ -1,7 +1,7 @@
 -- The rows of declarations make equivalences whose right sides bind such names.
 use Rattle.std.proofs.Common.{ℕ, Bool, List, [], ◌∷◌, map, None, refl}
 use Rattle.std.specs.List.{AllByRecursion}
-use Rattle.cv_lists.proofs.Each.{AllByRecursion_flat_map}
+use Rattle.cv_syntax_trees.proofs.lists.Each.{AllByRecursion_flat_map}
 use Rattle.cv_syntax_trees.specs.declared.class.Class.{Class}
 use Rattle.cv_syntax_trees.specs.Declarations.{Declaration, Equiv}
 use Rattle.cv_syntax_trees.specs.Tree.{Tree, second}

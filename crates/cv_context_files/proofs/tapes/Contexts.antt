@@ -11,14 +11,14 @@ use Rattle.cv_meaning.specs.Side.{CallNumber, Side}
 use Rattle.cv_meaning_chances.specs.Tests.{HasValues}
 use Rattle.cv_meaning.specs.contexts.Groups.{Function}
 use Rattle.cv_meaning_chances.specs.values.Values.{ConstructHasValues, HasValuesIn}
-use Rattle.cv_directory_sorts.specs.Sites.{first_of}
+use Rattle.cv_syntax_trees.specs.sites.Sites.{first_of}
 use Rattle.cv_scope_rules.specs.declared.position.Position.{Position}
 use Rattle.cv_scope_rules.specs.Context.{cell_of, first_position, index_terms, replications_below, second_position}
 use Rattle.cv_scene.specs.Scenes.{or_empty}
 use Rattle.cv_scene.specs.Instances.{Call as Found, Matching, call_at, call_by, first_call, guess, instance_of, is_instance, standing_for, standing_here, term_for}
 use Rattle.cv_scene.specs.Sites.{Site, is_guard, sites_in}
 use Rattle.cv_scene.specs.Contexts.{after_calls, context_in, in_context, is_statement}
-use Rattle.cv_lists.proofs.Each.{AllByRecursion_append}
+use Rattle.cv_syntax_trees.proofs.lists.Each.{AllByRecursion_append}
 
 module _ (ds : List Declaration) (i : Interpretation) (m : Mode) (side : Side) (key : 0 < side.key_size) (calls : (n : CallNumber) → HasValues (side.cells n)) where
   abbrev g : Setting

@@ -11,12 +11,12 @@ use Rattle.cv_meaning_laws.proofs.Listed.{Has}
 use Rattle.cv_meaning_laws.specs.adequacy.Typed.{IsDeclared, OfType}
 use Rattle.cv_meaning_laws.proofs.adequacy.Lists.{contains_has}
 use Rattle.cv_meaning.specs.contexts.Groups.{Function, Left, Right, Which, functions_of}
-use Rattle.cv_directory_sorts.specs.declared.sort.Sort.{Sort}
+use Rattle.cv_syntax_trees.specs.declared.sites.sort.Sort.{Sort}
 use Rattle.cv_scope_rules.specs.declared.typing.fault.Fault.TheVariants.{Arity, IndexAsMessage, NotFixed, WrongType}
 use Rattle.cv_scope_rules.specs.declared.typing.form.Form.TheVariants.{InBody}
 use Rattle.cv_scope_rules.specs.typing.Parts.{AreTyped, IsTypedFile, IsTypedPart, Part, body_parts, declaration_parts, equivalence_parts, first_result, game_part, in_function, more_results, names_of, results, side_arrays, signature_of}
 use Rattle.cv_scope_rules.specs.typing.Signature.{Above, Arrays, Signature, arity_by, declaration_of, fixed_by, is_arity, is_fixed_in, is_of, sort_by}
-use Rattle.cv_directory_sorts.specs.Counting.{count}
+use Rattle.cv_syntax_trees.specs.sites.Counting.{count}
 use Rattle.cv_scope_rules.specs.typing.Typing.{IsTyped, fault_of, site_differs}
 use Rattle.cv_scope_rules.specs.typing.Wants.{Run, Want, above_second, is_index_sent, is_wrong, wants}
 use Rattle.cv_context_files.specs.tapes.Declared.{BodiesChooseFromDeclaredTypes, ChoosesFromDeclaredTypes}

@@ -18,7 +18,7 @@ use Rattle.cv_meaning.specs.contexts.Sites.{Site, site_numbered}
 use Rattle.cv_meaning.specs.contexts.Finds.{Oracles, function_of_site}
 use Rattle.cv_meaning.specs.contexts.Sides.{Context, body_cells, chosen_cell, function_cells, oracles_of, side_of}
 use Rattle.cv_context_files.specs.tapes.Declared.{ChoosesFromDeclaredTypes, HasDeclaredTypes, AreOfDeclaredTypes}
-use Rattle.cv_lists.proofs.Each.{AllByRecursion_append}
+use Rattle.cv_syntax_trees.proofs.lists.Each.{AllByRecursion_append}
 
 module _ (ds : List Declaration) (i : Interpretation) (sat : Satisfies ds i) where
   abbrev HasValue : Cell × ℕ → Type 0

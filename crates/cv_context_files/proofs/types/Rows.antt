@@ -1,7 +1,7 @@
 -- The types of keys and of coins are those that the uses of names of an equivalence ask for.
 use Rattle.std.proofs.Common.{ℕ, List, [], ◌∷◌, map, inl, refl}
 use Rattle.std.specs.List.{AllByRecursion}
-use Rattle.cv_lists.proofs.Each.{AllByRecursion_flat_map}
+use Rattle.cv_syntax_trees.proofs.lists.Each.{AllByRecursion_flat_map}
 use Rattle.cv_syntax_trees.specs.declared.class.Class.{Class}
 use Rattle.cv_syntax_trees.specs.declared.class.Class.TheVariants as class
 use Rattle.cv_syntax_trees.specs.declared.head.Head.TheVariants.{Equivalence}

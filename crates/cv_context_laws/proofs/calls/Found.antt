@@ -18,7 +18,7 @@ use Rattle.cv_context_runs.proofs.instances.Numbers.{inputs_there}
 use Rattle.cv_inline.specs.NextGame.{call_of, replications_under}
 use Rattle.cv_context_laws.specs.calls.Calls.{AreCallsOf, IsCallOf}
 use Rattle.cv_context_laws.proofs.calls.Games.{game_calls}
-use Rattle.cv_lists.specs.Options.{first_of}
+use Rattle.cv_syntax_trees.specs.lists.Options.{first_of}
 
 abbrev pub Found : Type 0
 Found = List (ℕ × ℕ) × Tree

@@ -20,7 +20,7 @@ use Rattle.cv_scene.specs.Apt.{AreBoth, AreSitesApt, IsApt, IsAptGame, IsNodeApt
 use Rattle.cv_match_laws.proofs.values.Numbers.{context}
 use Rattle.cv_context_laws.specs.shape.Parts.{IsPart}
 use Rattle.cv_context_laws.proofs.shape.Terms.{call_part, children, empty_part, game_part, node_part, same_parts, term_binds}
-use Rattle.cv_lists.proofs.Each.{AllByRecursion_append}
+use Rattle.cv_syntax_trees.proofs.lists.Each.{AllByRecursion_append}
 
 -- positions of children
 

@@ -19,7 +19,7 @@ use Rattle.cv_scope_rules.proofs.Apart.{IsApart, IsWithin, first_replications, i
 use Rattle.cv_scope_rules.proofs.Pairs.{all_weaker, each_weaker}
 use Rattle.cv_context_laws.specs.shape.Rules.{AreKept, NodeKeeps}
 use Rattle.cv_scope_runs.proofs.FreshRuns.{pairwise_left, pairwise_right}
-use Rattle.cv_lists.proofs.Each.{AllByRecursion_append, AllByRecursion_left, AllByRecursion_right}
+use Rattle.cv_syntax_trees.proofs.lists.Each.{AllByRecursion_append, AllByRecursion_left, AllByRecursion_right}
 
 -- parts of relations of lists
 

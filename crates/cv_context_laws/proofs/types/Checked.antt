@@ -7,13 +7,13 @@ use Rattle.cv_syntax_trees.specs.declared.head.Head.{Head}
 use Rattle.cv_syntax_trees.specs.declared.head.Head.TheVariants.{Binder, Branch, In, Let, New}
 use Rattle.cv_syntax_trees.specs.Declarations.{Declaration}
 use Rattle.cv_syntax_trees.specs.Tree.{Tree, Empty, Node, second}
-use Rattle.cv_directory_sorts.specs.Sites.{Variable, at_parameters, bound_sort, first_of, first_site, parameters_below, site_here, sites_of}
-use Rattle.cv_directory_sorts.specs.declared.sort.Sort.{Sort}
-use Rattle.cv_directory_sorts.specs.declared.sort.Sort.TheVariants.{BelowParameter, OfType}
+use Rattle.cv_syntax_trees.specs.sites.Sites.{Variable, at_parameters, bound_sort, first_of, first_site, parameters_below, site_here, sites_of}
+use Rattle.cv_syntax_trees.specs.declared.sites.sort.Sort.{Sort}
+use Rattle.cv_syntax_trees.specs.declared.sites.sort.Sort.TheVariants.{BelowParameter, OfType}
 use Rattle.cv_scope_rules.specs.typing.Parts.{IsTypedGame, nothing_above}
 use Rattle.cv_scope_rules.specs.typing.Signature.{Above, OfGame, Signature, variable_sort}
 use Rattle.cv_scope_rules.specs.typing.Typing.{binders_differ, site_differs, typing_walk}
-use Rattle.cv_directory_sorts.specs.Sorts.{differs_from}
+use Rattle.cv_syntax_trees.specs.sites.Sorts.{differs_from}
 use Rattle.cv_scope_rules.specs.typing.Wants.{Run, Want}
 use Rattle.cv_scope_rules.specs.declared.typing.form.Form.TheVariants.{InProcess}
 use Rattle.cv_typing_runs.proofs.Terms.{faultless, same_sorts}

@@ -12,8 +12,8 @@ use Rattle.cv_meaning.specs.contexts.Sides.{Context}
 use Rattle.cv_scope_rules.specs.Phrases.{binds_none, head_binds_none}
 use Rattle.cv_meaning.specs.contexts.Inlined.{is_own}
 use Rattle.cv_inline.specs.NextGame.{Calling, call_of, calling, callings_from, callings_of, names_assigned}
-use Rattle.cv_lists.proofs.Options.{AllByRecursion_slice_get}
-use Rattle.cv_lists.proofs.Each.{AllByRecursion_append}
+use Rattle.cv_syntax_trees.proofs.lists.Options.{AllByRecursion_slice_get}
+use Rattle.cv_syntax_trees.proofs.lists.Each.{AllByRecursion_append}
 
 module _ (barred : ℕ → Bool) (x : ℕ) (holds : barred x ≡ true) where
   abbrev Lacks : List ℕ → Type 0

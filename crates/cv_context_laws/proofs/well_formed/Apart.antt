@@ -17,7 +17,7 @@ use Rattle.cv_context_laws.proofs.well_formed.Becoming.{AreCalls, none, call, Be
 use Rattle.cv_context_laws.proofs.well_formed.Sites.{IsAnswerFrom, IsFrom, IsMoved, IsOne, calls_ordered, like_here, moved_here, no_answers, no_sites, one_left, one_right, ordered, still_apart}
 use Rattle.cv_scope_runs.proofs.FreshRuns.{pairwise_left, pairwise_right}
 use Rattle.cv_context_laws.proofs.shape.Scoped.{pairs_each, each_left, each_right}
-use Rattle.cv_lists.proofs.Each.{AllByRecursion_append, AllByRecursion_left, AllByRecursion_right}
+use Rattle.cv_syntax_trees.proofs.lists.Each.{AllByRecursion_append, AllByRecursion_left, AllByRecursion_right}
 
 -- parts of relations of lists
 

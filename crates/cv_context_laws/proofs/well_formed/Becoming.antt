@@ -4,7 +4,7 @@ use Rattle.std.specs.List.{AllByRecursion}
 use Rattle.cv_syntax_trees.specs.declared.head.Head.{Head}
 use Rattle.cv_syntax_trees.specs.declared.head.Head.TheVariants.{Leaf, Read, Apply, Eq, And, Or, Not, Yes, No, Cons, Name, Binder, New, Key, Call}
 use Rattle.cv_syntax_trees.specs.Tree.{Tree, Empty, Node}
-use Rattle.cv_directory_sorts.specs.Sites.{site_here}
+use Rattle.cv_syntax_trees.specs.sites.Sites.{site_here}
 use Rattle.cv_scope_rules.specs.Context.{first_position, replications_below, second_position}
 use Rattle.cv_scope_rules.specs.Sites.{Site, SiteName, Variable, sites_here}
 use Rattle.cv_scope_rules.specs.declared.position.Position.{Position}

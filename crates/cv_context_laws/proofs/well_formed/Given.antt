@@ -17,7 +17,7 @@ use Rattle.cv_scene.specs.Sites.{Site, is_guard, sites_in}
 use Rattle.cv_match_laws.proofs.instances.Calls.{call_found}
 use Rattle.cv_match_laws.proofs.instances.Given.{Given, firsts, look_at, stands_for}
 use Rattle.cv_context_laws.proofs.shape.Terms.{one_of, by_either}
-use Rattle.cv_lists.proofs.Each.{AllByRecursion_append}
+use Rattle.cv_syntax_trees.proofs.lists.Each.{AllByRecursion_append}
 
 no_uses : (x : ℕ) (a : Tree) → is_phrase Nil a ≡ true → uses x a ≡ 0
 unfolding is_phrase uses

@@ -36,7 +36,7 @@ use Rattle.cv_context_laws.proofs.well_formed.Given.{call_has, sites_have}
 use Rattle.cv_context_laws.proofs.well_formed.Shown.{call_still, context_still, phrase_still, still_inner}
 use Rattle.cv_context_laws.proofs.well_formed.Reach.{AreNamesOf, AreRead, IsBelow, kept_of_read, read_inner, read_of_kept, reads_move}
 use Rattle.cv_context_laws.proofs.well_formed.Spoken.{AreBare, bare_inner, call_read, nil_is, phrase_bare, plain_no_coin, read_in}
-use Rattle.cv_lists.proofs.Each.{AllByRecursion_left}
+use Rattle.cv_syntax_trees.proofs.lists.Each.{AllByRecursion_left}
 
 -- a scoped tree keeps the rules at each node
 pub scoped_kept : (N : Names) (s : Standing) (t : Tree) → IsBefore s → IsScopedAt N s t → AreKept N s.position s.known s.place t

@@ -7,7 +7,7 @@ use Rattle.cv_syntax_trees.specs.declared.head.Head.{Head}
 use Rattle.cv_syntax_trees.specs.declared.head.Head.TheVariants.{Stop, Yield, Par, Repl, In, Out, Event, New, Let, If, Find, Branch, Leaf, Read, Apply, Eq, And, Or, Not, Yes, No, Cons, Binder, Name, Key}
 use Rattle.cv_syntax_trees.specs.Tree.{Tree, Empty, Node, chain, first_place, second, second_place}
 use Rattle.cv_meaning.specs.Binders.{bound_names}
-use Rattle.cv_directory_sorts.specs.Sites.{site_here}
+use Rattle.cv_syntax_trees.specs.sites.Sites.{site_here}
 use Rattle.cv_scope_rules.specs.Context.{cell_of, first_position, index_terms, replications_below, second_position}
 use Rattle.cv_scope_rules.specs.Phrases.{Phrase, Arm, Binders, Body, Branches, Cells, Else, Guarded, Guards, Indices as Names, Inputs, Message, Nil, OneCell, Pattern, Term, Terms, Then, is_phrase, parts}
 use Rattle.cv_scope_rules.specs.Sites.{Variable, channel_here, site_of, sites_here, variable_sites}
@@ -25,8 +25,8 @@ use Rattle.cv_context_laws.proofs.shape.Terms.{children}
 use Rattle.cv_context_runs.proofs.visits.Nodes.{binders_in, by_call, empty_in, node_by, node_in, pattern_in, plain_node}
 use Rattle.cv_context_laws.proofs.well_formed.Becoming.{AreCalls, none, call, Becomes, still, node, coin, key, statement, IsNoAnswer, Stays, is_still, is_still_head}
 use Rattle.cv_context_laws.proofs.well_formed.Given.{call_has, sites_have}
-use Rattle.cv_lists.proofs.Tests.{false_from_not}
-use Rattle.cv_lists.proofs.Each.{AllByRecursion_append}
+use Rattle.cv_syntax_trees.proofs.lists.Tests.{false_from_not}
+use Rattle.cv_syntax_trees.proofs.lists.Each.{AllByRecursion_append}
 
 -- phrases of terms and of lists
 

@@ -15,7 +15,7 @@ use Rattle.cv_scope_rules.specs.declared.position.Position.TheVariants.{Anywhere
 use Rattle.cv_scope_rules.proofs.Pairs.{all_map, all_true, all_weaker, pairs_append}
 use Rattle.cv_scene.specs.Reductions.{Reduction}
 use Rattle.cv_context_laws.proofs.well_formed.Becoming.{AreCalls, none, call, Becomes, still, node, coin, key, statement, IsNoAnswer, is_still, is_still_head}
-use Rattle.cv_lists.proofs.Each.{AllByRecursion_append}
+use Rattle.cv_syntax_trees.proofs.lists.Each.{AllByRecursion_append}
 
 -- one of a list
 

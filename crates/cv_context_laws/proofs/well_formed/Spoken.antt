@@ -24,7 +24,7 @@ use Rattle.cv_context_runs.proofs.visits.Nodes.{by_call, empty_in, nil_in, node_
 use Rattle.cv_context_laws.proofs.well_formed.Becoming.{is_still_head}
 use Rattle.cv_context_laws.proofs.well_formed.Shown.{AreStillParts, count_node, still_parts}
 use Rattle.cv_context_laws.proofs.well_formed.Reach.{AreNamesOf, AreRead, IsBelow, cell_read, head_moves, no_coin_read, none_some, reads_move}
-use Rattle.cv_lists.proofs.Tests.{false_from_not}
+use Rattle.cv_syntax_trees.proofs.lists.Tests.{false_from_not}
 
 abbrev is_read : Head → Bool
 is_read (Leaf x) = true

@@ -4,9 +4,9 @@ use Rattle.std.proofs.lemmas.Bool.{and_parts, both_ways, or_parts}
 use Rattle.cv_syntax_trees.specs.declared.head.Head.{Head}
 use Rattle.cv_syntax_trees.specs.declared.head.Head.TheVariants.{Leaf, Read, Apply, Eq, And, Or, Not, Yes, No, Cons, Name, Binder, New, Key, Call}
 use Rattle.cv_syntax_trees.specs.Tree.{Tree, Empty, Node}
-use Rattle.cv_directory_sorts.specs.Sites.{Variable, at_parameters, first_of, first_site, is_untyped_here, is_untyped_in, parameters_below, site_here}
-use Rattle.cv_directory_sorts.specs.declared.sort.Sort.{Sort}
-use Rattle.cv_directory_sorts.specs.declared.sort.Sort.TheVariants.{OfType}
+use Rattle.cv_syntax_trees.specs.sites.Sites.{Variable, at_parameters, first_of, first_site, is_untyped_here, is_untyped_in, parameters_below, site_here}
+use Rattle.cv_syntax_trees.specs.declared.sites.sort.Sort.{Sort}
+use Rattle.cv_syntax_trees.specs.declared.sites.sort.Sort.TheVariants.{OfType}
 use Rattle.cv_scope_rules.specs.Scope.{is_variable}
 use Rattle.cv_scope_rules.specs.declared.position.Position.{Position}
 use Rattle.cv_scope_rules.specs.declared.position.Position.TheVariants.{Anywhere}

@@ -14,9 +14,9 @@ use Rattle.cv_meaning_laws.specs.adequacy.Typed as meaning
 use Rattle.cv_meaning.specs.contexts.Bodies.{function_called}
 use Rattle.cv_meaning.specs.contexts.Groups.{Function, Group}
 use Rattle.cv_meaning.specs.contexts.Sides.{body_cells, cells_here, chosen_cell, function_cells}
-use Rattle.cv_directory_sorts.specs.Sites.{Variable, first_of, first_site}
-use Rattle.cv_directory_sorts.specs.declared.sort.Sort.{Sort}
-use Rattle.cv_directory_sorts.specs.declared.sort.Sort.TheVariants.{BelowParameter, OfType}
+use Rattle.cv_syntax_trees.specs.sites.Sites.{Variable, first_of, first_site}
+use Rattle.cv_syntax_trees.specs.declared.sites.sort.Sort.{Sort}
+use Rattle.cv_syntax_trees.specs.declared.sites.sort.Sort.TheVariants.{BelowParameter, OfType}
 use Rattle.cv_typing_runs.specs.Games.{context_of, variable_of_meaning}
 use Rattle.cv_scope_rules.specs.Context.{cell_of, first_position, replications_below, second_position}
 use Rattle.cv_scope_rules.specs.Phrases.{Term}

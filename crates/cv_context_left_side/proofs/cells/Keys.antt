@@ -17,7 +17,7 @@ use Rattle.cv_context_left_side.proofs.cells.Sizes.{all_heads, each_copy, flat_h
 use Rattle.cv_context_left_side.proofs.cells.Turned.{IsTurned, is_kept}
 use Rattle.cv_context_left_side.proofs.cells.Turned as turned
 use Rattle.cv_meaning_laws.proofs.adequacy.Sorted.{all_has}
-use Rattle.cv_lists.proofs.Each.{AllByRecursion_append}
+use Rattle.cv_syntax_trees.proofs.lists.Each.{AllByRecursion_append}
 
 -- no cell of a `new`
 

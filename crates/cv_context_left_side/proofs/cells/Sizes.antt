@@ -11,7 +11,7 @@ use Rattle.cv_meaning.specs.Runs.{Adversary, Events, Mode, Random, Real}
 use Rattle.cv_meaning.specs.Tapes.{Cell, Test_at}
 use Rattle.cv_meaning_laws.proofs.Lists.{each_flat_map}
 use Rattle.cv_meaning_laws.specs.adequacy.Typed.{Context}
-use Rattle.cv_directory_sorts.specs.Sites.{first_of}
+use Rattle.cv_syntax_trees.specs.sites.Sites.{first_of}
 use Rattle.cv_scope_rules.specs.Context.{replications_below}
 use Rattle.cv_scope_rules.specs.Made.{made_by}
 use Rattle.cv_scope_rules.specs.Sites.{Variable}
@@ -28,7 +28,7 @@ use Rattle.cv_context_left_side.proofs.cells.Flat.{flat_head, has_terms_alone, h
 use Rattle.cv_context_left_side.proofs.cells.Found.{IsCalled, IsDrawnFor, game_sorts}
 use Rattle.cv_context_left_side.proofs.cells.Turned.{IsTurned, is_kept}
 use Rattle.cv_context_left_side.proofs.cells.Turned as turned
-use Rattle.cv_lists.proofs.Each.{AllByRecursion_append, AllByRecursion_weaker, AllByRecursion_right}
+use Rattle.cv_syntax_trees.proofs.lists.Each.{AllByRecursion_append, AllByRecursion_weaker, AllByRecursion_right}
 
 -- what each construct gives
 

@@ -22,7 +22,7 @@ use Rattle.cv_context.specs.indices.Indices.{indices_use_none, reads_name}
 use Rattle.cv_context.proofs.indices.Typed.{leaf_unused}
 use Rattle.cv_context_runs.proofs.instances.Arguments.{either}
 use Rattle.cv_context_left_side.proofs.refusals.Children.{indices_parts}
-use Rattle.cv_lists.proofs.Each.{AllByRecursion_append}
+use Rattle.cv_syntax_trees.proofs.lists.Each.{AllByRecursion_append}
 
 -- what stands for a name that the body reads is a part of the filled body
 

@@ -9,7 +9,7 @@ use Rattle.cv_meaning.specs.Experiments.{Breaks, Experiment, Guesses, mode_of}
 use Rattle.cv_meaning.specs.Runs.{Events, Random, Real}
 use Rattle.cv_meaning_laws.proofs.adequacy.Lists.{contains_has}
 use Rattle.cv_meaning_laws.proofs.Listed.{Has}
-use Rattle.cv_directory_sorts.specs.Sites.{first_of}
+use Rattle.cv_syntax_trees.specs.sites.Sites.{first_of}
 use Rattle.cv_meaning.specs.Queries.{queries_in}
 use Rattle.cv_scope_rules.specs.Phrases.{Inputs}
 use Rattle.cv_scope_rules.specs.Scope.{is_variable, names_of}

@@ -3,11 +3,11 @@ use Rattle.std.proofs.Common.{◌≡◌, ℕ, zero, suc, ◌+◌, ◌<◌, false
 use Rattle.cv_syntax.specs.faults.Walk.{first_fault}
 use Rattle.cv_syntax_trees.specs.Tree.{same_tree, size}
 use Rattle.cv_scene.specs.lines.Given.{with_given}
-use Rattle.cv_directory_sorts.specs.Sites.{bound_sort, first_index, first_site}
+use Rattle.cv_syntax_trees.specs.sites.Sites.{bound_sort, first_index, first_site}
 use Rattle.cv_meaning.specs.Interpretation.{is_constant_of}
 use Rattle.cv_scope_rules.specs.typing.Parts.{IsTypedGame, game_part, signature_of}
 use Rattle.cv_scope_rules.specs.typing.Signature.{names_in}
-use Rattle.cv_directory_sorts.specs.Counting.{count}
+use Rattle.cv_syntax_trees.specs.sites.Counting.{count}
 use Rattle.cv_scope_rules.specs.typing.Typing.{binders_differ}
 use Rattle.cv_scope_rules.proofs.typing.First.{typed_where_none}
 use Rattle.cv_meaning.specs.Queries.{queries_in}

@@ -5,7 +5,7 @@ use Rattle.std.specs.List.{list_any}
 use Rattle.cv_syntax_trees.specs.declared.head.Head.TheVariants.{Secret, SecretOnce}
 use Rattle.cv_syntax_trees.specs.Declarations.{Declaration}
 use Rattle.cv_syntax_trees.specs.Tree.{Tree, Empty, Node}
-use Rattle.cv_directory_sorts.specs.Sites.{first_site, is_untyped_in}
+use Rattle.cv_syntax_trees.specs.sites.Sites.{first_site, is_untyped_in}
 use Rattle.cv_meaning.specs.Queries.{queries_in}
 use Rattle.cv_query_form.specs.Rules.{AreAsked, HasValues, MayBeAsked}
 use Rattle.cv_scope_rules.specs.Scope.{IsScoped, is_variable, names_of}

@@ -4,7 +4,7 @@ use Rattle.std.proofs.lemmas.Bool.{and_parts, both_ways, or_left}
 use Rattle.cv_syntax_trees.specs.declared.head.Head.TheVariants as head
 use Rattle.cv_syntax_trees.specs.Declarations.{Declaration}
 use Rattle.cv_syntax_trees.specs.Tree.{Tree, Empty, Node}
-use Rattle.cv_directory_sorts.specs.Sites.{is_untyped_in}
+use Rattle.cv_syntax_trees.specs.sites.Sites.{is_untyped_in}
 use Rattle.cv_scene.specs.Pruning.{Part}
 use Rattle.cv_scene.specs.Scenes.{Scene, first_reading, has_place, is_chosen, is_new, is_output_at, is_queried, is_type, part_at}
 use Rattle.cv_scene.specs.Terms.{has_index, has_site, is_bool_at}
@@ -24,7 +24,7 @@ use Rattle.cv_steps_laws.proofs.Renamed.{LeadsRenamed, has_site_renamed, rename_
 use Rattle.cv_steps_laws.proofs.Unletted.{unlet_leads}
 use Rattle.cv_context_right_side.specs.queries.Bound.{BindsNoNewIndex}
 use Rattle.cv_context_right_side.proofs.queries.Asked.{variable_no_index}
-use Rattle.cv_lists.proofs.Each.{AllByRecursion_left, AllByRecursion_right}
+use Rattle.cv_syntax_trees.proofs.lists.Each.{AllByRecursion_left, AllByRecursion_right}
 
 lacking_split : (i : ℕ) (m t : Tree) → Lacks i m → Lacks i t → Lacks i (split_process m t)
 lacking_split i m t k l =

@@ -11,7 +11,7 @@ use Rattle.cv_syntax_trees.specs.Tree.{Tree, Empty, Node, first, reads_only}
 use Rattle.cv_meaning.specs.Interpretation.{is_constant_of}
 use Rattle.cv_meaning_laws.specs.adequacy.Typed as meaning
 use Rattle.cv_meaning_laws.specs.adequacy.Typed.{BelowParameter, HasSort, HaveSorts, IsFunction, IsTyped, IsVariable, NameHasSort, OfType, Scope, Sort, boolean, parameter_in, parameters}
-use Rattle.cv_directory_sorts.specs.Sites.{Variable, first_site}
+use Rattle.cv_syntax_trees.specs.sites.Sites.{Variable, first_site}
 use Rattle.cv_scope_rules.specs.Context.{items, replications_below}
 use Rattle.cv_scope_rules.specs.Made.{made_by}
 use Rattle.cv_scope_rules.specs.Phrases.{Phrase, Body, Nil, OneCell, Term, Terms, is_phrase}
@@ -25,7 +25,7 @@ use Rattle.cv_meaning.specs.contexts.KeyTerms.{AreFineKeyTerms, IsFineKeyTerm}
 use Rattle.cv_meaning.specs.contexts.Inlined.{is_index_of}
 use Rattle.cv_context_right_side.proofs.texts.Typed.{IsTypedAs}
 use Rattle.cv_context_right_side.proofs.texts.Stands.{IsThere, Stands, below}
-use Rattle.cv_lists.proofs.Each.{AllByRecursion_append}
+use Rattle.cv_syntax_trees.proofs.lists.Each.{AllByRecursion_append}
 
 -- index terms
 

@@ -4,9 +4,9 @@ use Rattle.std.proofs.lemmas.Bool.{and_parts, both_ways, not-true, or_left, or_r
 use Rattle.cv_syntax_trees.specs.declared.head.Head.{Head}
 use Rattle.cv_syntax_trees.specs.declared.head.Head.TheVariants.{Binder, Branch, Call, In, Key, Let, New, Repl}
 use Rattle.cv_syntax_trees.specs.Tree.{Tree, Empty, Node, second}
-use Rattle.cv_directory_sorts.specs.declared.sort.Sort.{Sort}
-use Rattle.cv_directory_sorts.specs.declared.sort.Sort.TheVariants.{BelowParameter, OfType}
-use Rattle.cv_directory_sorts.specs.Sites.{at_parameters, bound_sort, first_index, first_of, first_site, index_here, is_untyped_here, is_untyped_in, parameters_below, site_here}
+use Rattle.cv_syntax_trees.specs.declared.sites.sort.Sort.{Sort}
+use Rattle.cv_syntax_trees.specs.declared.sites.sort.Sort.TheVariants.{BelowParameter, OfType}
+use Rattle.cv_syntax_trees.specs.sites.Sites.{at_parameters, bound_sort, first_index, first_of, first_site, index_here, is_untyped_here, is_untyped_in, parameters_below, site_here}
 use Rattle.cv_scope_rules.specs.Context.{replications_below}
 use Rattle.cv_scope_rules.specs.Made.{is_bound, made_by}
 use Rattle.cv_scope_rules.specs.Phrases.{Phrase, Binders, Nil, binds_none, head_binds_none, is_phrase}
@@ -18,7 +18,7 @@ use Rattle.cv_typing_runs.proofs.SameSites.{branch_binders, input_binders, phras
 use Rattle.cv_context.specs.indices.Indices.{binds_new_index, indices_are_new}
 use Rattle.cv_context_runs.specs.visits.Fine.{defines}
 use Rattle.cv_scope_runs.proofs.Games.{first_some, second_some, with_parameters}
-use Rattle.cv_lists.proofs.Tests.{or_cases}
+use Rattle.cv_syntax_trees.proofs.lists.Tests.{or_cases}
 
 pub some_either : {A : Type 0} (o u : Option A) → is_some (first_of o u) ≡ true → (is_some o ≡ true) ⊎ (is_some u ≡ true)
 some_either (Some a) u e = inl refl

@@ -8,7 +8,7 @@ use Rattle.cv_syntax_trees.specs.declared.head.Head.TheVariants.{And, Apply, Con
 use Rattle.cv_syntax_trees.specs.Declarations.{Declaration}
 use Rattle.cv_syntax_trees.specs.Tree.{Tree, Empty, Node, first_place, second_place}
 use Rattle.cv_meaning_laws.specs.adequacy.Typed.{Scope}
-use Rattle.cv_directory_sorts.specs.Sites.{first_index, first_of, index_here}
+use Rattle.cv_syntax_trees.specs.sites.Sites.{first_index, first_of, index_here}
 use Rattle.cv_scene.specs.lines.Given.{or_node, term_for, with_given}
 use Rattle.cv_scope_rules.specs.Context.{first_position, replications_below, second_position}
 use Rattle.cv_scope_rules.specs.Phrases.{Phrase, Nil, Term, Terms, is_phrase}
@@ -29,8 +29,8 @@ use Rattle.cv_context_runs.proofs.instances.Arguments.{either}
 use Rattle.cv_context_right_side.proofs.texts.Typed.{IsTypedAs, typed_below}
 use Rattle.cv_scope_runs.proofs.Games.{first_some, second_some}
 use Rattle.cv_context_laws.proofs.shape.Terms.{one_of}
-use Rattle.cv_lists.proofs.Each.{AllByRecursion_append}
-use Rattle.cv_lists.proofs.Tests.{or_cases}
+use Rattle.cv_syntax_trees.proofs.lists.Each.{AllByRecursion_append}
+use Rattle.cv_syntax_trees.proofs.lists.Tests.{or_cases}
 
 -- an index of the replications below a node is one of those above it, or the node binds it
 below_index : (x : ℕ) (rs : Scope) (h : Head) → is_index (replications_below h rs) x ≡ true → (is_index rs x ≡ true) ⊎ (is_some (index_here x h) ≡ true)

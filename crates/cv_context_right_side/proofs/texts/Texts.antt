@@ -8,7 +8,7 @@ use Rattle.cv_syntax_trees.specs.declared.head.Head.TheVariants.{Leaf, Read}
 use Rattle.cv_syntax_trees.specs.Declarations.{Declaration}
 use Rattle.cv_syntax_trees.specs.Tree.{Tree, Empty, Node, chain, first, head_reads_only, reads_only}
 use Rattle.cv_meaning.specs.Interpretation.{is_constant_of}
-use Rattle.cv_directory_sorts.specs.Sites.{first_site}
+use Rattle.cv_syntax_trees.specs.sites.Sites.{first_site}
 use Rattle.cv_group_rules.specs.Symbols.{symbols_of}
 use Rattle.cv_group_rules.specs.Faults.{IsAccepted}
 use Rattle.cv_scope_rules.specs.Phrases.{Inputs, IsWellFormed}

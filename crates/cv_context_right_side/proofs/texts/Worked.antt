@@ -3,9 +3,9 @@ use Rattle.std.proofs.Common.{◌≡◌, ℕ, Bool, true, false, cond, ◌==◌,
 use Rattle.std.proofs.lemmas.Bool.{both_ways}
 use Rattle.cv_syntax.specs.faults.Walk.{first_fault}
 use Rattle.cv_syntax_trees.specs.Tree.{same_tree, size}
-use Rattle.cv_directory_sorts.specs.Sites.{bound_sort, first_site, is_untyped_in}
+use Rattle.cv_syntax_trees.specs.sites.Sites.{bound_sort, first_site, is_untyped_in}
 use Rattle.cv_meaning.specs.Interpretation.{Interpretation}
-use Rattle.cv_directory_sorts.specs.Counting.{count}
+use Rattle.cv_syntax_trees.specs.sites.Counting.{count}
 use Rattle.cv_scope_rules.specs.Made.{is_bound}
 use Rattle.cv_scope_rules.specs.Phrases.{IsWellFormed, binds_none, is_phrase}
 use Rattle.cv_scope_rules.specs.Scope.{names_of}

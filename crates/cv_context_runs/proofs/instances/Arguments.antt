@@ -4,13 +4,13 @@ use Rattle.std.proofs.lemmas.Bool.{both_ways, and_parts}
 use Rattle.cv_syntax_trees.specs.declared.head.Head.{Head}
 use Rattle.cv_syntax_trees.specs.declared.head.Head.TheVariants.{And, Apply, Cons, Eq, Leaf, No, Not, Or, Read, Yes}
 use Rattle.cv_syntax_trees.specs.Tree.{Tree, Empty, Node, first_place, second_place}
-use Rattle.cv_directory_sorts.specs.Sites.{first_of}
+use Rattle.cv_syntax_trees.specs.sites.Sites.{first_of}
 use Rattle.cv_scope_rules.specs.Phrases.{Nil, Term, Terms, is_phrase}
 use Rattle.cv_scene.specs.Scenes.{first_reading, head_reads}
 use Rattle.cv_scene.specs.lines.Given.{or_node, term_for, with_given}
 use Rattle.cv_scene.specs.Refusals.{first_in_arguments, is_among, is_name_of, uses}
 use Rattle.cv_scene.specs.LeftTerms.{reads_no_array}
-use Rattle.cv_lists.proofs.Options.{some_none}
+use Rattle.cv_syntax_trees.proofs.lists.Options.{some_none}
 
 pub both_none : (o u : Option ℕ) → first_of o u ≡ None → (o ≡ None) × (u ≡ None)
 both_none None u e = (refl, e)

@@ -13,7 +13,7 @@ use Rattle.cv_meaning.specs.contexts.Bodies.{function_called}
 use Rattle.cv_meaning.specs.contexts.Finds.{function_of_site}
 use Rattle.cv_meaning.specs.contexts.Groups.{function_at}
 use Rattle.cv_meaning.specs.contexts.Sites as numbered
-use Rattle.cv_lists.specs.Options.{first_of}
+use Rattle.cv_syntax_trees.specs.lists.Options.{first_of}
 use Rattle.cv_meaning.specs.contexts.Sites.{bounds_above, is_call, site_numbered, site_with, sites_from}
 use Rattle.cv_scope_rules.specs.Context.{cell_of, first_position, replications_below, second_position}
 use Rattle.cv_scope_rules.specs.Phrases.{Arm, Binders, Body, Branches, Cells, Else, Guarded, Guards, Indices as Names, Inputs, Nil, Pattern, Message, Term, Terms, Then, is_phrase}
@@ -25,8 +25,8 @@ use Rattle.cv_scene.specs.Contexts.{after_calls, context_in, in_context, is_stat
 use Rattle.cv_scene.specs.Reductions.{Reduction, is_coin, matching, oracles, sites, in_game}
 use Rattle.cv_scene.specs.Apt.{has_value, inside}
 use Rattle.cv_match_laws.proofs.values.Numbers.{context, count_sites}
-use Rattle.cv_lists.proofs.Places.{length_map}
-use Rattle.cv_lists.proofs.Options.{slice_get_map}
+use Rattle.cv_syntax_trees.proofs.lists.Places.{length_map}
+use Rattle.cv_syntax_trees.proofs.lists.Options.{slice_get_map}
 
 -- a call of the number is there
 

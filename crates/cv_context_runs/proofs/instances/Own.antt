@@ -25,7 +25,7 @@ use Rattle.cv_match_laws.proofs.instances.Uses.{filled_uses, one_site, uses_apar
 use Rattle.cv_context_runs.proofs.instances.Arguments.{argument_free, both_none}
 use Rattle.cv_context_runs.proofs.instances.Outside.{head_plain, unnamed_unused}
 use Rattle.cv_context_runs.proofs.instances.Sites.{any_at, own_coins, read_is, site_apt}
-use Rattle.cv_lists.proofs.Options.{none_some}
+use Rattle.cv_syntax_trees.proofs.lists.Options.{none_some}
 
 -- what is found in a list
 

@@ -26,7 +26,7 @@ use Rattle.cv_scene.specs.Apt.{AreCoinsApt, IsCoinApt, IsSiteApt}
 use Rattle.cv_match_laws.proofs.instances.Coins.{coin_cell, site_call}
 use Rattle.cv_context_runs.proofs.instances.Numbers.{called}
 use Rattle.cv_context_runs.proofs.instances.Terms.{only_terms}
-use Rattle.cv_lists.proofs.Options.{none_some}
+use Rattle.cv_syntax_trees.proofs.lists.Options.{none_some}
 
 -- lists by position
 

@@ -8,8 +8,8 @@ use Rattle.cv_syntax_trees.specs.Declarations.{Declaration}
 use Rattle.cv_syntax_trees.specs.Tree.{Tree, Empty, Node, chain, same_tree}
 use Rattle.cv_syntax_trees.proofs.Equality.{same_tree_exact}
 use Rattle.cv_meaning.specs.contexts.Groups.{Function}
-use Rattle.cv_directory_sorts.specs.Sites.{first_of}
-use Rattle.cv_directory_sorts.specs.declared.sort.Sort.TheVariants.{OfType}
+use Rattle.cv_syntax_trees.specs.sites.Sites.{first_of}
+use Rattle.cv_syntax_trees.specs.declared.sites.sort.Sort.TheVariants.{OfType}
 use Rattle.cv_scope_rules.specs.typing.Parts.{nothing_above}
 use Rattle.cv_scope_rules.specs.typing.Signature.{Signature, sort_of}
 use Rattle.cv_scope_rules.specs.Phrases.{Term, is_phrase}
@@ -19,7 +19,7 @@ use Rattle.cv_scene.specs.lines.Given.{or_node, term_for, with_given}
 use Rattle.cv_scene.specs.Instances.{Instance, Matching, are_of_types, call_at, call_by, filled, first_call, guess, instance_of, is_argument_of, is_coin_of, is_instance, is_read_of, is_variable_of, names_of}
 use Rattle.cv_scene.specs.LeftTerms.{HasLeftTerms, IsLeftFunction}
 use Rattle.cv_scene.specs.Apt.{has_value}
-use Rattle.cv_lists.proofs.Each.{AllByRecursion_append}
+use Rattle.cv_syntax_trees.proofs.lists.Each.{AllByRecursion_append}
 
 abbrev HasValue : Tree → Type 0
 HasValue t = has_value t ≡ true

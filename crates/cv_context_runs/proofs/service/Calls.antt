@@ -37,7 +37,7 @@ use Rattle.cv_context_runs.proofs.service.Kept.{KeptStores, answers_are, coin_no
 use Rattle.cv_context_runs.proofs.service.Terms.{AreAnswered, cell_value, terms_values}
 use Rattle.cv_match_laws.proofs.instances.Given.{all_refl}
 use Rattle.cv_context_runs.proofs.instances.Arguments.{either}
-use Rattle.cv_lists.proofs.Each.{AllByRecursion_both, AllByRecursion_left}
+use Rattle.cv_syntax_trees.proofs.lists.Each.{AllByRecursion_both, AllByRecursion_left}
 
 -- a term that is given for a name which a body reads is assigned where the whole instance is
 

@@ -22,7 +22,7 @@ use Rattle.cv_scope_runs.specs.Reads.{TermAssigned, VisitReadsAssigned}
 use Rattle.cv_scope_runs.proofs.Contexts.{Matches, push_matches}
 use Rattle.cv_scene.specs.Instances.{is_read_of}
 use Rattle.cv_scene.specs.Sites.{Site, sites_in}
-use Rattle.cv_directory_sorts.specs.Sites.{first_of}
+use Rattle.cv_syntax_trees.specs.sites.Sites.{first_of}
 use Rattle.cv_scene.specs.Sights.{variable_of}
 use Rattle.cv_scene.specs.Contexts.{after_calls, in_context as tree_in_context, is_coin_variable}
 use Rattle.cv_scene.specs.Reductions.{Reduction, in_context, in_game, is_answer, is_coin, is_plain, matching, sites}

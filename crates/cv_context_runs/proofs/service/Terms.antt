@@ -24,7 +24,7 @@ use Rattle.cv_scene.specs.Reductions.{Reduction, is_coin, is_plain, matching, si
 use Rattle.cv_scene.specs.Apt.{IsAptGame, reads_outside}
 use Rattle.cv_match_laws.proofs.values.Numbers.{count_sites}
 use Rattle.cv_context_runs.proofs.service.Kept.{answer_not_plain, answers_are}
-use Rattle.cv_lists.proofs.Each.{AllByRecursion_append}
+use Rattle.cv_syntax_trees.proofs.lists.Each.{AllByRecursion_append}
 
 -- the current tuple
 pub terms_values : (g : Setting) (at : Indices) (m : Store) (ps rs : List (ℕ × ℕ)) → AreIndicesOf g ps rs → AllByRecursion (IsFound at) ps → values g at m (index_terms rs) ≡ tuple ps

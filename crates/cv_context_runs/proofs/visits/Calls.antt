@@ -23,7 +23,7 @@ use Rattle.cv_inline_laws.specs.runs.Texts.{IsHere, KeyKeeps, Text, oracles_in, 
 use Rattle.cv_inline_laws.specs.runs.Contexts.{IsCallVisit, context_setting}
 use Rattle.cv_context_runs.specs.visits.CallTexts.{AreOwnIndices, IsCallText, IsDrawnAlike, IsKeyRead}
 use Rattle.cv_context_runs.proofs.visits.Keys.{as_many, index_found, index_values, indices_here, many_values, terms_later, terms_there}
-use Rattle.cv_lists.proofs.Each.{AllByRecursion_weaker}
+use Rattle.cv_syntax_trees.proofs.lists.Each.{AllByRecursion_weaker}
 
 nil_empty : (a : Tree) → is_oracle_phrase Nil a ≡ true → a ≡ Empty
 unfolding is_oracle_phrase

@@ -15,7 +15,7 @@ use Rattle.cv_scope_runs.proofs.TermsLater.{later_same}
 use Rattle.cv_meaning.specs.contexts.KeyTerms.{AreFineKeyTerms, IsFineKeyTerm}
 use Rattle.cv_meaning.specs.contexts.Inlined.{index_terms, is_index_of, needed}
 use Rattle.cv_inline.specs.bodies.Related.{IsKept, indices_at}
-use Rattle.cv_lists.proofs.Each.{AllByRecursion_append}
+use Rattle.cv_syntax_trees.proofs.lists.Each.{AllByRecursion_append}
 
 -- indices
 

@@ -26,7 +26,7 @@ use Rattle.cv_inline_laws.specs.runs.Contexts.{IsExpected, IsExpectedAt, context
 use Rattle.cv_inline_laws.specs.runs.Texts.{Text}
 use Rattle.cv_context_runs.specs.visits.CallTexts.{HasCallTexts}
 use Rattle.cv_context_runs.proofs.visits.Calls.{call_expected, g₁}
-use Rattle.cv_lists.proofs.Each.{AllByRecursion_both}
+use Rattle.cv_syntax_trees.proofs.lists.Each.{AllByRecursion_both}
 
 -- lists of binders
 

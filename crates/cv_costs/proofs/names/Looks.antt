@@ -8,10 +8,10 @@ use Rattle.cv_syntax_trees.specs.declared.head.Head.{Head}
 use Rattle.cv_syntax_trees.specs.declared.head.Head.TheVariants.{Binder, Branch, Find}
 use Rattle.cv_syntax_trees.specs.Tree.{Tree, Empty, Node, first_place, second_place}
 use Rattle.cv_syntax.specs.NameSets.{NameSet, is_in}
-use Rattle.cv_directory_sorts.specs.Sites.{first_of}
+use Rattle.cv_syntax_trees.specs.sites.Sites.{first_of}
 use Rattle.cv_scope_rules.specs.Made.{is_bound, is_own_at, is_own_of}
 use Rattle.cv_costs.specs.names.Naming.{first_naming, names_one}
-use Rattle.cv_lists.proofs.Tests.{equals_comm}
+use Rattle.cv_syntax_trees.proofs.lists.Tests.{equals_comm}
 
 -- names in a set
 

@@ -10,7 +10,7 @@ use Rattle.cv_scope_rules.specs.Sites.{Variable}
 use Rattle.cv_query_certificates.specs.Secrets.{AreUnreadChoices, first_definition_but, is_choice}
 use Rattle.cv_costs.specs.quiet.Quiet.{IsQuiet, only}
 use Rattle.cv_costs.proofs.quiet.Shapes.{IsShaped, defined_parts, left_false, one_of, quiet_game}
-use Rattle.cv_lists.proofs.Tests.{or_false}
+use Rattle.cv_syntax_trees.proofs.lists.Tests.{or_false}
 
 abbrev IsChosenHere : ℕ → Head → Tree → Type 0
 IsChosenHere x h a = (made_by h a (Variable x) && not (is_choice h a)) ≡ false

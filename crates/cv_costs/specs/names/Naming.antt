@@ -4,7 +4,7 @@ use Rattle.std.specs.List.{list_any}
 use Rattle.cv_syntax_trees.specs.declared.head.Head.{Head}
 use Rattle.cv_syntax_trees.specs.declared.head.Head.TheVariants.{Binder, Branch, Call, In, Key, Leaf, Let, New, Read, Secret, SecretOnce}
 use Rattle.cv_syntax_trees.specs.Tree.{Tree, Empty, Node, first_place, second, second_place}
-use Rattle.cv_directory_sorts.specs.Sites.{first_of}
+use Rattle.cv_syntax_trees.specs.sites.Sites.{first_of}
 use Rattle.cv_meaning.specs.Queries.{queries_in}
 use Rattle.cv_scene.specs.Scenes.{Scene}
 

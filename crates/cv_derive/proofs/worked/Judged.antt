@@ -5,9 +5,9 @@ use Rattle.cv_syntax.specs.faults.Walk.{first_fault}
 use Rattle.cv_syntax_trees.specs.declared.head.Head.TheVariants.{ByAgain, ByBool, ByCong, ByContra, ByData, ByEquation, ByFact, ByHere, ByMp, ByOf, ByOtherFact, ByOtherHere, ByRefl, BySame, BySite, BySym, ByTrans}
 use Rattle.cv_syntax_trees.specs.Builders.{leaf}
 use Rattle.cv_syntax_trees.specs.Tree.{Empty, Node, chain, lone, size, subtree, same_tree}
-use Rattle.cv_directory_sorts.specs.Sites.{bound_sort, first_index, first_site}
+use Rattle.cv_syntax_trees.specs.sites.Sites.{bound_sort, first_index, first_site}
 use Rattle.cv_scope_rules.specs.typing.Signature.{names_in}
-use Rattle.cv_directory_sorts.specs.Counting as counting
+use Rattle.cv_syntax_trees.specs.sites.Counting as counting
 use Rattle.cv_scope_rules.specs.typing.Typing.{binders_differ}
 use Rattle.cv_scope_rules.specs.Context.{context_at}
 use Rattle.cv_scope_rules.specs.Made.{is_bound}

@@ -29,7 +29,7 @@ use Rattle.cv_scope_runs.proofs.Games.{has_parts, phrase_parts}
 use Rattle.cv_scope_runs.proofs.Rows.{Row, row, walks}
 use Rattle.cv_scope_runs.proofs.Rows
 use Rattle.cv_scope_runs.proofs.Taking.{TakenPairs, taken_pairs}
-use Rattle.cv_lists.proofs.Each.{AllByRecursion_append, AllByRecursion_weaker, AllByRecursion_both, AllByRecursion_cross}
+use Rattle.cv_syntax_trees.proofs.lists.Each.{AllByRecursion_append, AllByRecursion_weaker, AllByRecursion_both, AllByRecursion_cross}
 use Rattle.cv_scene.specs.Late.{is_free_beside, is_late}
 use Rattle.cv_derive_laws.proofs.late.Looking.{Deep, Defines, behind_late, beside_free, defines_first, defines_here, defines_second, made_above, within_late}
 

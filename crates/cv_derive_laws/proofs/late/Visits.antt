@@ -14,7 +14,7 @@ use Rattle.cv_scope_rules.specs.Scope.{is_variable}
 use Rattle.cv_scope_runs.proofs.FactsRuns.{well_game}
 use Rattle.cv_scope_runs.proofs.Games.{Game, stands_phrase}
 use Rattle.cv_scope_runs.proofs.ServeRuns.{VisitHolds, game_holds}
-use Rattle.cv_lists.proofs.Each.{AllByRecursion_weaker}
+use Rattle.cv_syntax_trees.proofs.lists.Each.{AllByRecursion_weaker}
 use Rattle.cv_scene.specs.Late.{is_late}
 use Rattle.cv_derive_laws.specs.late.Unassigned.{IsWellVisited, LateAreUnassigned}
 use Rattle.cv_derive_laws.proofs.late.Runs.{VisitLate, visits_late}

@@ -15,8 +15,8 @@ use Rattle.cv_meaning.specs.Binders.{bound_to, fits}
 use Rattle.cv_meaning.specs.Memory.{Indices, Store, put, tuple}
 use Rattle.cv_meaning_laws.specs.adequacy.Typed as meaning
 use Rattle.cv_meaning_laws.specs.adequacy.Typed.{AreBelowParameters, IsTypedStore, IsVariable}
-use Rattle.cv_directory_sorts.specs.declared.sort.Sort.TheVariants.{BelowParameter}
-use Rattle.cv_directory_sorts.specs.Sites.{Variable, first_of, first_site, sites_of}
+use Rattle.cv_syntax_trees.specs.declared.sites.sort.Sort.TheVariants.{BelowParameter}
+use Rattle.cv_syntax_trees.specs.sites.Sites.{Variable, first_of, first_site, sites_of}
 use Rattle.cv_scope_rules.specs.declared.position.Position.{Position}
 use Rattle.cv_scope_rules.specs.declared.position.Position.TheVariants as position
 use Rattle.cv_scope_rules.specs.Context.{Context, first_position, nothing_known, replications_below, second_position}
@@ -36,13 +36,13 @@ use Rattle.cv_scope_rules.specs.declared.typing.form.Form.TheVariants.{InProcess
 use Rattle.cv_scope_rules.specs.typing.Parts.{IsTypedGame}
 use Rattle.cv_scope_rules.specs.typing.Signature.{Above, OfGame, Signature, variable_sort}
 use Rattle.cv_scope_rules.specs.typing.Typing.{IsTyped, binders_differ}
-use Rattle.cv_directory_sorts.specs.Sorts.{differs_from}
+use Rattle.cv_syntax_trees.specs.sites.Sorts.{differs_from}
 use Rattle.cv_scope_rules.specs.typing.Wants.{Run, Want, above_second, wants}
 use Rattle.cv_typing_runs.specs.Games.{context_of, sort_of_meaning, variable_of_meaning}
 use Rattle.cv_typing_runs.proofs.SameSites.{Agrees, sites_agree}
 use Rattle.cv_typing_runs.proofs.Terms.{faultless, same_sorts}
 use Rattle.cv_typing_runs.proofs.Games.{first_nothing}
-use Rattle.cv_lists.proofs.Each.{AllByRecursion_left, AllByRecursion_right}
+use Rattle.cv_syntax_trees.proofs.lists.Each.{AllByRecursion_left, AllByRecursion_right}
 use Rattle.cv_derive_facts.proofs.Standings.{first_replications, second_replications}
 
 module _ (ds : List Declaration) (game : Tree) where

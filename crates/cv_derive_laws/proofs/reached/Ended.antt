@@ -13,7 +13,7 @@ use Rattle.cv_derive_facts.specs.Promises.{PlaceStands, SitesStand}
 use Rattle.cv_scene.specs.Scenes.{Scene}
 use Rattle.cv_derive_laws.specs.late.Unassigned.{IsWellVisited}
 use Rattle.cv_derive_laws.specs.reached.Copies.{AreReachedInPairs, WasVisited}
-use Rattle.cv_lists.proofs.Options.{AllByRecursion_slice_get}
+use Rattle.cv_syntax_trees.proofs.lists.Options.{AllByRecursion_slice_get}
 
 module _ (s : Scene) (i : Interpretation) (last : State) (vs : List Visit) (places : AllByRecursion (PlaceStands (setting_of s.declarations i) s.game) vs) (grow : AllByRecursion (GrowsToEnd last) vs) (sites : SitesStand (setting_of s.declarations i) s.game last.memory)
     (types : IsTypedStore (context_of s.declarations s.game) i last.memory.store) (visited : AllByRecursion IsWellVisited vs) where

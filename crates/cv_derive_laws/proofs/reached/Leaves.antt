@@ -9,8 +9,8 @@ use Rattle.cv_syntax_trees.specs.Tree.{Tree, Empty, Node}
 use Rattle.cv_meaning.specs.Interpretation.{is_constant_of}
 use Rattle.cv_meaning_laws.specs.adequacy.Typed as meaning
 use Rattle.cv_meaning_laws.specs.adequacy.Typed.{HasSort, HaveSomeSorts, HaveSorts, IsVariable, NameHasSort, Scope, Sort, parameter_in}
-use Rattle.cv_directory_sorts.specs.Sites.{first_site, is_untyped_in}
-use Rattle.cv_directory_sorts.specs.Sites as directory
+use Rattle.cv_syntax_trees.specs.sites.Sites.{first_site, is_untyped_in}
+use Rattle.cv_syntax_trees.specs.sites.Sites as directory
 use Rattle.cv_scope_rules.specs.Context.{cell_of, index_terms, items}
 use Rattle.cv_scope_rules.specs.Rules.{is_index}
 use Rattle.cv_scope_rules.specs.Scope.{is_variable}

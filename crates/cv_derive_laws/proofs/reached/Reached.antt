@@ -55,7 +55,7 @@ use Rattle.cv_derive_laws.specs.stores.Holding.{HoldAt, HoldAtCandidates, HoldAt
 use Rattle.cv_derive_laws.proofs.reached.Bound.{IsGood, candidate_typed, find_good, first_good, rest_good}
 use Rattle.cv_derive_laws.proofs.reached.Replications.{Each, above, each_above, no_constants, no_variables, same_replications}
 use Rattle.cv_derive_laws.proofs.reached.Walks.{places_fine}
-use Rattle.cv_lists.proofs.Each.{AllByRecursion_append}
+use Rattle.cv_syntax_trees.proofs.lists.Each.{AllByRecursion_append}
 
 -- indices
 

@@ -20,7 +20,7 @@ use Rattle.cv_scope_rules.specs.Phrases.{binds_none, head_binds_none}
 use Rattle.cv_scope_rules.specs.Above.{first_standing, second_standing, standing_at, stands_at, with_failed, with_held}
 use Rattle.cv_scope_rules.proofs.Apart.{first_replications, second_replications}
 use Rattle.cv_derive_facts.proofs.Standings.{first_replications as first_same, second_replications as second_same}
-use Rattle.cv_lists.proofs.Each.{AllByRecursion_append}
+use Rattle.cv_syntax_trees.proofs.lists.Each.{AllByRecursion_append}
 
 abbrev pub above : Option Context → Option (List (ℕ × ℕ))
 above o = option_map (λ (Γ : Context). Γ.replications) o

@@ -20,7 +20,7 @@ use Rattle.cv_scope_rules.specs.Above.{first_standing, item_standing, rest_stand
 use Rattle.cv_typing_runs.specs.Games.{are_named, are_variable_cells, context_of, has_site}
 use Rattle.cv_derive_laws.specs.reached.Fine.{IsFine, IsFineCell, IsFineTerm}
 use Rattle.cv_derive_laws.proofs.reached.Leaves.{cells_fine, more_cell, more_fine, own_cell, own_term, sorted_fine, variable_fine}
-use Rattle.cv_lists.proofs.Each.{AllByRecursion_append, AllByRecursion_weaker}
+use Rattle.cv_syntax_trees.proofs.lists.Each.{AllByRecursion_append, AllByRecursion_weaker}
 
 -- what stands at the item and at the rest of a list is what stands above it
 abbrev IsQuiet : Position → Type 0

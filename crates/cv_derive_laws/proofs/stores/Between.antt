@@ -26,7 +26,7 @@ use Rattle.cv_scope_runs.proofs.TermsLater.{store_extends, values_kept}
 use Rattle.cv_scope_rules.specs.Behind.{behind_site, sites_in, sites_of}
 use Rattle.cv_scope_rules.specs.Above.{first_standing, second_standing, standing_at, with_failed, with_held}
 use Rattle.cv_derive_laws.specs.stores.Reached.{PlaceCellsBetween, SiteCellsBetween}
-use Rattle.cv_lists.proofs.Each.{AllByRecursion_append, AllByRecursion_weaker, AllByRecursion_left, AllByRecursion_right}
+use Rattle.cv_syntax_trees.proofs.lists.Each.{AllByRecursion_append, AllByRecursion_weaker, AllByRecursion_left, AllByRecursion_right}
 
 -- what is true of the cells that are known is true of those that stand
 

@@ -9,9 +9,9 @@ use Rattle.cv_syntax_trees.specs.Tree.{Tree, Empty, Node}
 use Rattle.cv_meaning_laws.specs.adequacy.Typed.{HasSort, Scope, parameter_in}
 use Rattle.cv_scope_rules.specs.Rules.{is_index}
 use Rattle.cv_scope_rules.specs.Phrases.{IsWellFormed, Phrase, Nil, Term, Terms, is_phrase}
-use Rattle.cv_directory_sorts.specs.declared.sort.Sort.{Sort}
-use Rattle.cv_directory_sorts.specs.declared.sort.Sort.TheVariants.{BelowParameter}
-use Rattle.cv_directory_sorts.specs.Sites.{first_of}
+use Rattle.cv_syntax_trees.specs.declared.sites.sort.Sort.{Sort}
+use Rattle.cv_syntax_trees.specs.declared.sites.sort.Sort.TheVariants.{BelowParameter}
+use Rattle.cv_syntax_trees.specs.sites.Sites.{first_of}
 use Rattle.cv_scope_rules.specs.declared.typing.precedence.Precedence.TheVariants.{First}
 use Rattle.cv_scope_rules.specs.typing.Parts.{nothing_above}
 use Rattle.cv_scope_rules.specs.typing.Signature.{Above, sort_of, function_in}
@@ -23,8 +23,8 @@ use Rattle.cv_typing_runs.proofs.Known.{AreKnown, IsKnown}
 use Rattle.cv_typing_runs.proofs.Terms.{sorted}
 use Rattle.cv_scene.specs.Scenes.{Scene}
 use Rattle.cv_scene.specs.Terms.{Names, above_under, has_site, head_is_there, indices_above, is_there, is_term_under, names_under, signature_in}
-use Rattle.cv_lists.proofs.Options.{none_from_not_some}
-use Rattle.cv_lists.proofs.Tests.{or_cases}
+use Rattle.cv_syntax_trees.proofs.lists.Options.{none_from_not_some}
+use Rattle.cv_syntax_trees.proofs.lists.Tests.{or_cases}
 
 -- the indices in scope
 

@@ -15,7 +15,7 @@ use Rattle.cv_syntax_trees.specs.Declarations.{Declaration}
 use Rattle.cv_syntax.specs.Declarations.{declarations}
 use Rattle.cv_syntax_trees.specs.Tree.{Tree, Empty, Node, bound_names, first, second, same_tree}
 use Rattle.cv_syntax.specs.PoolTrees.{tree_at}
-use Rattle.cv_directory_sorts.specs.declared.sort.Sort.TheVariants.{OfType}
+use Rattle.cv_syntax_trees.specs.declared.sites.sort.Sort.TheVariants.{OfType}
 use Rattle.cv_directory.specs.Live.{IsLive}
 use Rattle.cv_scene.specs.lines.Given.{with_given}
 use Rattle.cv_scene.specs.Reasons.{are_of_types, equations_in, is_instance}

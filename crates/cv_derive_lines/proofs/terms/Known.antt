@@ -5,9 +5,9 @@ use Rattle.std.proofs.Math.Path.{fun_ext}
 use Rattle.cv_pool.specs.KindTree.{KindTree}
 use Rattle.cv_syntax.specs.declared.decls.Decl.{Decl}
 use Rattle.cv_syntax.specs.Declarations.{declarations}
-use Rattle.cv_directory_sorts.specs.declared.sort.Sort.{Sort}
-use Rattle.cv_directory_sorts.specs.declared.sort.Sort.TheVariants.{BelowParameter}
-use Rattle.cv_directory_sorts.specs.Sites.{first_of}
+use Rattle.cv_syntax_trees.specs.declared.sites.sort.Sort.{Sort}
+use Rattle.cv_syntax_trees.specs.declared.sites.sort.Sort.TheVariants.{BelowParameter}
+use Rattle.cv_syntax_trees.specs.sites.Sites.{first_of}
 use Rattle.cv_typing.specs.declared.arrays.Arrays.{Arrays}
 use Rattle.cv_scope_rules.specs.declared.typing.precedence.Precedence.TheVariants.{First}
 use Rattle.cv_scope_rules.specs.typing.Parts.{nothing_above}
@@ -19,7 +19,7 @@ use Rattle.cv_scene.specs.Sights.{Sight}
 use Rattle.cv_scene.specs.Terms.{indices_above, is_function, names_under}
 use Rattle.cv_derive_lines.specs.terms.Typed.{IsSightOf, names_of}
 use Rattle.cv_scene_view.proofs.Above.{index_above}
-use Rattle.cv_lists.proofs.Options.{is_some_map}
+use Rattle.cv_syntax_trees.proofs.lists.Options.{is_some_map}
 
 -- an index of a place is one above it
 pub index_at : (above : Map Sort) (s : Sight) → above_of above ≡ indices_above nothing_above s.replications → (x : ℕ) → is_some (above_of above x) ≡ is_index s.replications x

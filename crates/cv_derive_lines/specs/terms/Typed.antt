@@ -7,8 +7,8 @@ use Rattle.cv_syntax_trees.specs.declared.head.Head.TheVariants.{Leaf, Read, App
 use Rattle.cv_syntax_trees.specs.Declarations.{Declaration}
 use Rattle.cv_syntax.specs.Declarations.{declarations}
 use Rattle.cv_syntax_trees.specs.Tree.{Tree, Empty, Node}
-use Rattle.cv_directory_sorts.specs.declared.sort.Sort.{Sort}
-use Rattle.cv_directory_sorts.specs.Sites.{sites_of}
+use Rattle.cv_syntax_trees.specs.declared.sites.sort.Sort.{Sort}
+use Rattle.cv_syntax_trees.specs.sites.Sites.{sites_of}
 use Rattle.cv_typing.specs.declared.arrays.Arrays.{Arrays}
 use Rattle.cv_scope_rules.specs.typing.Signature.{Signature, Above, OfGame, variable_in}
 use Rattle.cv_typing.specs.Tables.{Map, above_of, arrays_of}

@@ -13,9 +13,9 @@ ghost use Rattle.cv_scene.specs.Terms.{above_under};
 use crate::citing::Citing;
 use crate::terms::arguments::{are_equal_by, is_equal_by, is_only_equal_by};
 use cv_derive_reasons::inferences::sides;
-use cv_directory_sorts::Sort;
 use cv_syntax::children::{is_empty, read_child};
 use cv_syntax::{Head, NodeId, Opened, Pool, read_node};
+use cv_syntax_trees::sites::Sort;
 use std::collections::HashMap;
 
 /// Whether two lines of a list say that the children of two nodes are equal.

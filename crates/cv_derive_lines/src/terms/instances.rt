@@ -11,9 +11,9 @@ ghost use Rattle.cv_derive_lines.specs.terms.Typed.{IsSightOf};
 use crate::citing::number;
 use crate::terms::typing::is_term_of;
 use cv_derive_reasons::substitution::same_instance;
-use cv_directory_sorts::Sort;
 use cv_syntax::children::is_empty;
 use cv_syntax::{Head, NodeId, Work, read_node};
+use cv_syntax_trees::sites::Sort;
 use cv_typing::Arrays;
 use std::collections::HashMap;
 

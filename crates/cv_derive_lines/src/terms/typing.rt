@@ -6,7 +6,7 @@ ghost use Rattle.cv_syntax.specs.PoolTrees.{tree_at};
 ghost use Rattle.cv_typing.specs.Lookups.{HasLiveArguments, IsLiveWant, signature_in, want_of};
 ghost use Rattle.cv_directory.specs.Live.{IsLive};
 ghost use Rattle.cv_scope_rules.specs.typing.Signature.{function_in, variable_in};
-ghost use Rattle.cv_directory_sorts.specs.Sorts.{same_sort};
+ghost use Rattle.cv_syntax_trees.specs.sites.Sorts.{same_sort};
 ghost use Rattle.cv_typing.specs.Tables.{above_of, arrays_of};
 ghost use Rattle.cv_scope_rules.specs.typing.Typing.{fault_of};
 ghost use Rattle.cv_scene.specs.Sights as sights;
@@ -17,11 +17,11 @@ ghost use Rattle.cv_derive_lines.specs.terms.Typed as typed;
 ghost use Rattle.cv_derive_lines.specs.terms.Typed.{IsSightOf, names_of};
 
 use crate::Claim;
-use cv_directory_sorts::Sort;
 use cv_scene_view::phrases::{Phrase, is_phrase};
 use cv_scope_rules::typing::Want;
 use cv_syntax::children::read_child;
 use cv_syntax::{Decls, Head, NodeId, Opened, Pool, Work, read_node};
+use cv_syntax_trees::sites::Sort;
 use cv_typing::{Arrays, function_sort, own_fault, sort_of_term, wants_below};
 use std::collections::HashMap;
 

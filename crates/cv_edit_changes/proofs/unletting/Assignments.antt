@@ -20,7 +20,7 @@ use Rattle.cv_path.proofs.extents.Extents.{size_part}
 use Rattle.cv_steps.specs.Unletting.{Assignment, assigned_in, assignment_by, only_assignment}
 use Rattle.cv_edit_changes.specs.declared.unletting.assigned.Assigned.{Assigned}
 use Rattle.cv_edit_changes.specs.unletting.Assigned.{IsAssigned, IsRead}
-use Rattle.cv_lists.proofs.Options.{some_pair_first, some_pair_second}
+use Rattle.cv_syntax_trees.proofs.lists.Options.{some_pair_first, some_pair_second}
 
 abbrev place_by : Option Definition → ℕ → Option ℕ
 place_by o n = cond (n == 1) (option_map (λ (d : Definition). d.place) o) None

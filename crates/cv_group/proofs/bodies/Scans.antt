@@ -5,7 +5,7 @@ use Rattle.cv_group.specs.declared.bodies.levels.Level.{Level}
 use Rattle.cv_group.specs.bodies.Levels.{level_of}
 use Rattle.cv_group_rules.specs.Rules as rule
 use Rattle.cv_group_rules.specs.Rules.{range_of, is_asked}
-use Rattle.cv_lists.proofs.Numbers.{suc_is_plus_one}
+use Rattle.cv_syntax_trees.proofs.lists.Numbers.{suc_is_plus_one}
 
 range_more : (u : ℕ) (over : Option ℕ) (ls : List Level) (k : ℕ) (d : Level) → k < length ls → range_of u over (map level_of (drop k ls)) ≡ range_of u (rule.ranging u over (level_of (get_or ls k d))) (map level_of (drop (suc k) ls))
 unfolding range_of

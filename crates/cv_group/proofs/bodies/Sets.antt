@@ -3,9 +3,9 @@ use Rattle.std.proofs.Common.{◌≡◌, ℕ, Bool, true, false, cond, ◌&&◌,
 use Rattle.std.specs.Prelude.{◌==◌}
 use Rattle.std.specs.HashSet.{Updates}
 use Rattle.cv_syntax.specs.NameSets.{NameSet, is_in}
-use Rattle.cv_directory_sorts.specs.Pairs.{same_pair}
+use Rattle.cv_syntax_trees.specs.sites.Pairs.{same_pair}
 use Rattle.cv_group.specs.bodies.Levels.{PairSet, is_paired}
-use Rattle.cv_lists.proofs.Tests.{and_or}
+use Rattle.cv_syntax_trees.proofs.lists.Tests.{and_or}
 
 -- s' is s with q, p is q with r
 pub or_more : (new s p q r : Bool) → new ≡ (s || q) → p ≡ (q || r) → (new || r) ≡ (s || p)

@@ -7,7 +7,7 @@ use Rattle.std.proofs.lemmas.Bool.{both_ways, eqb-true}
 use Rattle.cv_syntax.specs.NameSets.{NameSet, is_in, is_one_of, is_outside}
 use Rattle.cv_group_rules.specs.Rules.{are_distinct, are_read}
 use Rattle.cv_group.specs.shapes.Shapes.{are_taken, without, without_all}
-use Rattle.cv_lists.proofs.Tests.{equals_comm}
+use Rattle.cv_syntax_trees.proofs.lists.Tests.{equals_comm}
 
 without_twice : (free : ℕ → Bool) (x y : ℕ) → without (without free x) y ≡ without (without free y) x
 without_twice free x y = fun_ext (λ z. go (x == z) (y == z) (free z))

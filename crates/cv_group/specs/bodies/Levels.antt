@@ -7,7 +7,7 @@ use Rattle.cv_syntax_trees.specs.declared.head.Head.{Head}
 use Rattle.cv_syntax_trees.specs.declared.head.Head.TheVariants.{Apply, Branch, Leaf, Read}
 use Rattle.cv_syntax.specs.NameSets.{is_in}
 use Rattle.cv_syntax_trees.specs.Tree.{Tree, Node, first}
-use Rattle.cv_directory_sorts.specs.Pairs.{same_pair}
+use Rattle.cv_syntax_trees.specs.sites.Pairs.{same_pair}
 use Rattle.cv_meaning.specs.contexts.Made as made
 use Rattle.cv_group_rules.specs.Rules as rule
 use Rattle.cv_group.specs.declared.bodies.around.Around.{Around}

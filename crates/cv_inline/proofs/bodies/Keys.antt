@@ -17,7 +17,7 @@ use Rattle.cv_inline.specs.bodies.Inlining.{Inlining}
 use Rattle.cv_meaning.specs.contexts.KeyTerms.{IsFineKeyTerm, AreFineKeyTerms}
 use Rattle.cv_inline.specs.bodies.Related.{indices_at}
 use Rattle.cv_inline.proofs.bodies.Terms.{read_value}
-use Rattle.cv_lists.proofs.Each.{AllByRecursion_append}
+use Rattle.cv_syntax_trees.proofs.lists.Each.{AllByRecursion_append}
 use Rattle.cv_meaning_laws.proofs.Counts.{same_tuple_refl}
 
 -- names of the indices of a branch

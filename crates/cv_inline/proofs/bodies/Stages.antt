@@ -23,7 +23,7 @@ use Rattle.cv_inline.specs.bodies.Related.{MadeUnder, at_its_key, this_call, IsM
 use Rattle.cv_inline.proofs.bodies.Terms.{Agrees}
 use Rattle.cv_inline.proofs.bodies.Keys.{AreNames, index_tuple, fits_length}
 use Rattle.cv_inline.proofs.bodies.Roles.{is_steady, apart_from, reads_more, steady, elsewhere_variable, steady_variable, seen_index, plain_steady, plain_kept, seen_kept, seen_steady, seen_later, seen_variable, index_names, steady_unbound, elsewhere_unbound, variables_apart}
-use Rattle.cv_lists.proofs.Each.{AllByRecursion_append}
+use Rattle.cv_syntax_trees.proofs.lists.Each.{AllByRecursion_append}
 
 -- a key's terms in stores that agree on the names of the game
 module _ (p : Inlining) (plain : ℕ → Bool) (n m : Store) (same : AgreeOn plain n m) (is : Indices) (i : ℕ → Bool) (found : (x : ℕ) → i x ≡ true → (v : ℕ) × (found_in is x ≡ Some v)) where

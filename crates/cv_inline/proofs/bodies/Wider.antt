@@ -2,7 +2,7 @@
 use Rattle.std.proofs.Common.{◌≡◌, ℕ, zero, suc, ◌+◌, ◌≤◌, Bool, true, false, ◌&&◌, List, [], ◌∷◌, ◌++◌, map, flat_map, refl, sym, ap, ap₂, ◌∙◌, arith, nat_lt, le-ltb, append_assoc, append-nil}
 use Rattle.std.proofs.Math.Path.{fun_ext}
 use Rattle.cv_meaning.specs.Candidates.{tuples_up_to, below}
-use Rattle.cv_lists.proofs.Places.{flat_flat, flat_maps}
+use Rattle.cv_syntax_trees.proofs.lists.Places.{flat_flat, flat_maps}
 
 -- at most d numbers, each below n
 abbrev pub within : ℕ → ℕ → List ℕ → Bool

@@ -11,7 +11,7 @@ use Rattle.cv_meaning.specs.contexts.Sites.{is_call}
 use Rattle.cv_inline.specs.NextGame.{call_of, replications_under}
 use Rattle.cv_pool.specs.KindTree.{KindTree}
 use Rattle.cv_inline_draws.specs.callings.FirstCalls.{FirstCalls, Table, call_in, calls_in, with_calls, with_node}
-use Rattle.cv_lists.specs.Options.{first_of}
+use Rattle.cv_syntax_trees.specs.lists.Options.{first_of}
 
 first_of_None : {A : Type 0} (o : Option A) → first_of o None ≡ o
 first_of_None None = refl

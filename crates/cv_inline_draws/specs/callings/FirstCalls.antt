@@ -11,7 +11,7 @@ use Rattle.cv_syntax.specs.PoolTrees.{tree_at}
 use Rattle.cv_meaning.specs.contexts.Sites.{is_call}
 use Rattle.cv_inline.specs.NextGame.{call_of}
 use Rattle.cv_inline_draws.specs.declared.callings.calls.Call.{Call}
-use Rattle.cv_lists.specs.Options.{first_of}
+use Rattle.cv_syntax_trees.specs.lists.Options.{first_of}
 
 abbrev pub Table : Type 0
 Table = HashMap ℕ Call (BuildHasherDefault FoldHasher)

@@ -14,7 +14,7 @@ use Rattle.cv_inline.specs.NextGame.{Calling, callers_of}
 use Rattle.cv_inline.specs.Draws.{Draw, argument_draws, body_draws, branch_draws, branches_draws, each_role_once, finds_in, index_draws, is_drawn, label_draws, roles_of, same_find, same_role, site_draws}
 use Rattle.cv_inline.proofs.Named.{same_role_exact}
 use Rattle.cv_inline_laws.specs.draws.DrawnNames.{AreBranchesDrawn, AreIndicesDrawn, DrawnNames, IsBodyDrawn, IsCallDrawn, has_find, has_indices, is_drawn_for, names_of_draws}
-use Rattle.cv_lists.proofs.Tests.{equals_refl}
+use Rattle.cv_syntax_trees.proofs.lists.Tests.{equals_refl}
 
 both : {b c : Bool} → b ≡ true → c ≡ true → (b && c) ≡ true
 both e f = ap₂ (λ x y. x && y) e f

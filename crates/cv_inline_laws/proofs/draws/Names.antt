@@ -8,7 +8,7 @@ use Rattle.cv_inline.specs.Draws.{drawn_for, is_drawn, name_for, roles_of, same_
 use Rattle.cv_inline.proofs.Named.{found_again, same_find_exact, same_role_exact}
 use Rattle.cv_inline_laws.specs.draws.DrawnNames.{AreApart, DrawnNames, drawn_in, find_in, has_find, has_indices, is_drawn_for, is_new, numbers_from, role_in}
 use Rattle.cv_inline_laws.proofs.draws.Fresh.{above_apart}
-use Rattle.cv_lists.proofs.Tests.{differ_comm}
+use Rattle.cv_syntax_trees.proofs.lists.Tests.{differ_comm}
 
 -- numbers in a row
 

@@ -16,7 +16,7 @@ use Rattle.cv_inline.specs.bodies.Related.{MadeUnder, at_its_key, IsKept}
 use Rattle.cv_inline.proofs.bodies.Stores.{put_agree, bound_agree}
 use Rattle.cv_inline.specs.NextGame.{callers_of}
 use Rattle.cv_inline_laws.specs.runs.Texts.{is_ordinary, Text, plain_in, KeyKeeps, AreRelatedIn}
-use Rattle.cv_lists.proofs.Tests.{differ_comm}
+use Rattle.cv_syntax_trees.proofs.lists.Tests.{differ_comm}
 
 clash : (v : ℕ) → None ≡ Some v → ⊥
 clash v e = cc

@@ -15,7 +15,7 @@ use Rattle.cv_inline.specs.NextGame.{Results, result_for, with_results, next_in}
 use Rattle.cv_inline_laws.specs.runs.Texts.{is_ordinary, Text}
 use Rattle.cv_inline_laws.specs.runs.Contexts.{ordinary_in, Answers, IsAnswer, IsFineIn, AreFineIn, AreCells, AreFineBranchesIn, HaveAnswers}
 use Rattle.cv_inline_laws.proofs.runs.After.{apart_by, bound_same}
-use Rattle.cv_lists.proofs.Tests.{differ_comm}
+use Rattle.cv_syntax_trees.proofs.lists.Tests.{differ_comm}
 
 module _ (T : Text) (key_gone : T.role T.calls.key ≡ Gone) where
   no_result : (at : Indices) (m n : Store) (o : Answers) (rs : Results) → HaveAnswers T at m n o rs → (x : ℕ) → ordinary_in T x ≡ true → (t : Tree) → result_for rs x t ≡ t

@@ -15,8 +15,8 @@ use Rattle.cv_inline.specs.Draws.{finds_in}
 use Rattle.cv_inline_names_laws.specs.accepted.RightBodies.{are_body_cells, are_body_terms, are_right_branches, is_body_term, is_right_body}
 use Rattle.cv_inline_names_laws.specs.accepted.Drawn.{Opening, opening_if, openings_at, openings_in}
 use Rattle.cv_inline_names_laws.proofs.accepted.Levels.{Agree, AllAssigned, IsOver, cells_fine, decided, found_range, with_defined, with_found}
-use Rattle.cv_lists.proofs.Each.{AllByRecursion_both, AllByRecursion_left, AllByRecursion_right, AllByRecursion_parts}
-use Rattle.cv_lists.proofs.Tests.{equals_refl}
+use Rattle.cv_syntax_trees.proofs.lists.Each.{AllByRecursion_both, AllByRecursion_left, AllByRecursion_right, AllByRecursion_parts}
+use Rattle.cv_syntax_trees.proofs.lists.Tests.{equals_refl}
 
 all_flat : {A B : Type 0} (P : A → Type 0) (f : B → List A) (xs : List B) → AllByRecursion P (flat_map f xs) → AllByRecursion (λ x. AllByRecursion P (f x)) xs
 all_flat P f [] h = tt

@@ -17,7 +17,7 @@ use Rattle.cv_inline_names_laws.specs.accepted.Drawn.{IsDrawnFor}
 use Rattle.cv_inline_names_laws.proofs.accepted.Levels.{Agree}
 use Rattle.cv_inline_names_laws.proofs.accepted.Bodies.{body_fine}
 use Rattle.cv_inline_names_laws.proofs.covered.Functions.{some_is}
-use Rattle.cv_lists.proofs.Tests.{or_cases}
+use Rattle.cv_syntax_trees.proofs.lists.Tests.{or_cases}
 
 -- a function of a list, by its tree
 record IsThere (passes : Tree → Bool) (functions : Tree) (f : Function) : Type 0 where

@@ -9,8 +9,8 @@ use Rattle.cv_inline.specs.bodies.Accepted.{AreFineCells, IsFineArray, IsNeverAs
 use Rattle.cv_meaning.specs.contexts.Inlined.{CallOf, Own, Scope, call_in, called, standing_of}
 use Rattle.cv_inline.specs.bodies.Inlining.{Inlining}
 use Rattle.cv_inline_names_laws.specs.accepted.RightBodies.{are_body_cells}
-use Rattle.cv_lists.proofs.Options.{some_none, none_some}
-use Rattle.cv_lists.proofs.Tests.{or_cases}
+use Rattle.cv_syntax_trees.proofs.lists.Options.{some_none, none_some}
+use Rattle.cv_syntax_trees.proofs.lists.Tests.{or_cases}
 
 -- the newest level
 

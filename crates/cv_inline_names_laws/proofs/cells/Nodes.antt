@@ -10,7 +10,7 @@ use Rattle.cv_meaning.specs.Interpretation.{Setting}
 use Rattle.cv_meaning.specs.Cells.{at_each_copy, bounds_under, tuples_below}
 use Rattle.cv_meaning_laws.proofs.Listed.{Has, has_left, has_right}
 use Rattle.cv_inline_names_laws.specs.cells.Layout.{is_term, is_term_head}
-use Rattle.cv_lists.proofs.Each.{AllByRecursion_append}
+use Rattle.cv_syntax_trees.proofs.lists.Each.{AllByRecursion_append}
 
 abbrev pub NodeFact : Type 1
 NodeFact = List ℕ → Head → Tree → Type 0

@@ -27,8 +27,8 @@ use Rattle.cv_inline_names_laws.specs.cells.Layout.{IsContextText, IsLaidOut, Is
 use Rattle.cv_inline_names_laws.proofs.cells.Nodes.{EachNode, NodeFact, each_copy, each_weaker, has_copy, node_with, term_bounds, term_each}
 use Rattle.cv_inline_names_laws.proofs.cells.Terms.{IsTerm}
 use Rattle.cv_inline_names_laws.proofs.cells.Next.{HoldsInNext, is_other, next_each, other_term}
-use Rattle.cv_lists.proofs.Each.{AllByRecursion_append}
-use Rattle.cv_lists.specs.Options.{first_of}
+use Rattle.cv_syntax_trees.proofs.lists.Each.{AllByRecursion_append}
+use Rattle.cv_syntax_trees.specs.lists.Options.{first_of}
 
 abbrev coin_size : List ℕ → ℕ → ℕ
 coin_size [] k = 0

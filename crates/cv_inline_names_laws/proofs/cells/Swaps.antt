@@ -11,7 +11,7 @@ use Rattle.cv_inline.proofs.Named.{same_find_exact, same_role_exact}
 use Rattle.cv_inline_laws.specs.runs.Texts.{Text}
 use Rattle.cv_inline_laws.specs.runs.Contexts.{AreLikeTapes}
 use Rattle.cv_inline_names_laws.specs.cells.Cells.{RightNames, at_right, find_for, is_that_find, names_in, new_for, on_tape}
-use Rattle.cv_lists.proofs.Tests.{equals_refl}
+use Rattle.cv_syntax_trees.proofs.lists.Tests.{equals_refl}
 
 same_variable : (s v : ℕ) → same_role (Variable s v) (Variable s v) ≡ true
 same_variable s v = ap (λ b. b && (v == v)) (equals_refl s) ∙ equals_refl v

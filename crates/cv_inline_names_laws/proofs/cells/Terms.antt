@@ -8,7 +8,7 @@ use Rattle.cv_syntax_trees.specs.Tree.{Tree, Empty, Node, first, lone, same_tree
 use Rattle.cv_meaning.specs.contexts.Inlined.{Drawn, Caller, Standing, TheKey, Own, CallOf, Scope, all_equal, array_in_game, call_in, called, cell_in_game, cells_in_game, cells_then, each_once, in_game, index_moves, index_reads, index_terms, indices_equal, is_own, leaf_in_game, moved, moved_leaf, needed, own_variable, read_at, standing_of, and_equal, tuples_equal}
 use Rattle.cv_inline.specs.NextGame.{Results, result_for, with_results}
 use Rattle.cv_inline_names_laws.specs.cells.Layout.{is_term, is_term_head}
-use Rattle.cv_lists.proofs.Each.{AllByRecursion_append}
+use Rattle.cv_syntax_trees.proofs.lists.Each.{AllByRecursion_append}
 
 abbrev pub IsTerm : Tree → Type 0
 IsTerm t = is_term t ≡ true

@@ -13,8 +13,8 @@ use Rattle.cv_inline_names_laws.specs.accepted.Drawn.{Opening, opening_if, openi
 use Rattle.cv_inline_names_laws.specs.accepted.RightBodies.{are_right_branches, is_body_term, is_empty, is_right_body}
 use Rattle.cv_inline_names_laws.specs.cells.Layout.{are_right_texts, is_right_text, is_term, is_term_head}
 use Rattle.cv_inline_names_laws.specs.covered.Covered.{names_stand_bare}
-use Rattle.cv_lists.proofs.Tests.{or_cases}
-use Rattle.cv_lists.proofs.Each.{AllByRecursion_append}
+use Rattle.cv_syntax_trees.proofs.lists.Tests.{or_cases}
+use Rattle.cv_syntax_trees.proofs.lists.Each.{AllByRecursion_append}
 
 module _ (d : DrawnNames) (ss : List Caller) (c : ℕ) (opens : (place site branch : ℕ) → Bool) where
   abbrev Opens : Opening → Type 0

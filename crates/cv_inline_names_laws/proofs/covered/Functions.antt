@@ -23,8 +23,8 @@ use Rattle.cv_inline_names_laws.specs.cells.Layout.{IsRightFunction}
 use Rattle.cv_inline_names_laws.specs.covered.Covered.{HasDraws, names_stand_bare}
 use Rattle.cv_inline_names_laws.proofs.covered.Bodies.{IsCovered, body_covered}
 use Rattle.cv_meaning_laws.proofs.adequacy.Sorted.{all_has}
-use Rattle.cv_lists.proofs.Options.{AllByRecursion_slice_get}
-use Rattle.cv_lists.proofs.Tests.{or_cases}
+use Rattle.cv_syntax_trees.proofs.lists.Options.{AllByRecursion_slice_get}
+use Rattle.cv_syntax_trees.proofs.lists.Tests.{or_cases}
 
 -- the function at a position, by its tree
 record IsAt (functions : Tree) (f : Function) : Type 0 where

@@ -7,7 +7,7 @@ use Rattle.cv_meaning_laws.proofs.Listed.{Has}
 use Rattle.cv_meaning.specs.contexts.Groups.{Function, Group, function_at}
 use Rattle.cv_meaning.specs.contexts.Sites.{Site, bounds_above, is_call, site_numbered, site_with, sites_from}
 use Rattle.cv_inline.specs.NextGame.{Calling, call_of, calling, callings_from, names_assigned, numbered, replications_under}
-use Rattle.cv_lists.specs.Options.{first_of}
+use Rattle.cv_syntax_trees.specs.lists.Options.{first_of}
 
 -- both walks come to the same calls
 

@@ -12,7 +12,7 @@ use Rattle.cv_meaning.specs.contexts.Roles.{Plain, Gone}
 use Rattle.cv_meaning.specs.contexts.Inlined.{Caller}
 use Rattle.cv_inline.specs.NextGame.{Calling, callers_of}
 use Rattle.cv_inline_laws.specs.runs.Texts.{Text, oracles_in}
-use Rattle.cv_lists.specs.Options.{first_of}
+use Rattle.cv_syntax_trees.specs.lists.Options.{first_of}
 
 -- the types of the game's names, and of those that the function of a site binds
 pub record Types : Type 0 where

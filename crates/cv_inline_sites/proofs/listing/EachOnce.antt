@@ -17,7 +17,7 @@ use Rattle.cv_inline_sites.specs.declared.listing.draws.Role.{Role}
 use Rattle.cv_inline_sites.specs.declared.listing.draws.Role.TheVariants.{Key, Variable, OfFind}
 use Rattle.cv_inline_sites.specs.contracts.listing.draws.RolePartialEq.TheImpl.{ghosts}
 use Rattle.cv_inline_sites.specs.listing.Listed.{draw_in, role_in}
-use Rattle.cv_lists.proofs.Tests.{equals_comm}
+use Rattle.cv_syntax_trees.proofs.lists.Tests.{equals_comm}
 
 -- equality of roles
 

@@ -7,7 +7,7 @@ use Rattle.cv_syntax_trees.specs.declared.head.Head.TheVariants.{Leaf}
 use Rattle.cv_syntax_trees.specs.Head.{code}
 use Rattle.cv_syntax_trees.specs.Tree.{Tree, Empty, Node, same_tree}
 use Rattle.cv_scene.specs.lines.Given.{with_given}
-use Rattle.cv_directory_sorts.specs.Sites.{first_of}
+use Rattle.cv_syntax_trees.specs.sites.Sites.{first_of}
 use Rattle.cv_meaning.specs.contexts.Groups.{Function, Group}
 use Rattle.cv_scene.specs.Instances.{Instance, Matching, call_by, filled, first_call, guess, instance_of, is_instance, names_of, terms_of}
 use Rattle.cv_match_terms.specs.heads.Beginnings.{begins, is_code, code_of}

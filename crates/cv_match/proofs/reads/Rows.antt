@@ -1,7 +1,7 @@
 -- Cells at the indices of replications, compared part by part.
 use Rattle.std.proofs.Common.{◌≡◌, ◌==◌, ◌+◌, ◌<◌, ◌≤◌, drop, get_or, length, ℕ, Bool, true, false, ◌&&◌, List, ◌∷◌, refl, ap, ap₂, sym, ◌∙◌}
 use Rattle.std.proofs.lemmas.List.{at_drop_all, at_drop_more}
-use Rattle.cv_lists.proofs.Tests.{and_true, equals_comm}
+use Rattle.cv_syntax_trees.proofs.lists.Tests.{and_true, equals_comm}
 use Rattle.cv_syntax_trees.specs.declared.head.Head.{Head}
 use Rattle.cv_syntax_trees.specs.declared.head.Head.TheVariants.{Cons, Leaf, Read}
 use Rattle.cv_syntax_trees.specs.Children.{is_empty, is_leaf}

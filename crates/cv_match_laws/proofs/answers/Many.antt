@@ -10,7 +10,7 @@ use Rattle.cv_scene.specs.Contexts.{AreAnswers}
 use Rattle.cv_scene.specs.Scenes.{KnowsQueries}
 use Rattle.cv_match_laws.specs.answers.Answers.{KnowsConstants, above_names, answer_above, file_scene}
 use Rattle.cv_match_laws.proofs.answers.Above.{unnamed_above}
-use Rattle.cv_lists.proofs.Tests.{false_from}
+use Rattle.cv_syntax_trees.proofs.lists.Tests.{false_from}
 
 apart : (n j k : ℕ) → n + j ≡ n + k → j ≡ k
 apart n j k e = omega (arith, e)

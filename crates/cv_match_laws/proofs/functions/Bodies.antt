@@ -19,7 +19,7 @@ use Rattle.cv_scene.specs.Refusals.{uses}
 use Rattle.cv_scene.specs.LeftTerms.{HasLeftTerms, IsLeftFunction, is_name_or_constant, reads_no_array}
 use Rattle.cv_match_laws.specs.functions.Forms.{HasLeftForm, is_whole}
 use Rattle.cv_match_laws.proofs.functions.Names.{distinct_names, firsts, one_reversed, one_taken, same_names, used_names}
-use Rattle.cv_lists.proofs.Tests.{or_cases}
+use Rattle.cv_syntax_trees.proofs.lists.Tests.{or_cases}
 
 -- a term names what is bound outside, and reads no array
 

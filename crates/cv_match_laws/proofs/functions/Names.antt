@@ -12,7 +12,7 @@ use Rattle.cv_meaning.specs.Correspondences.{typed_names}
 use Rattle.cv_meaning.specs.contexts.Groups.{function_of, key_of}
 use Rattle.cv_group_rules.specs.Rules.{are_read, is_one_binder, reads, taken_names}
 use Rattle.cv_scene.specs.Refusals.{uses}
-use Rattle.cv_lists.proofs.Tests.{differ_comm, or_cases}
+use Rattle.cv_syntax_trees.proofs.lists.Tests.{differ_comm, or_cases}
 
 abbrev pub firsts : List (ℕ × ℕ) → List ℕ
 firsts xs = map (λ (x : ℕ × ℕ). x.0) xs

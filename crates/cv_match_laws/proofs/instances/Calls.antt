@@ -7,7 +7,7 @@ use Rattle.cv_syntax_trees.specs.Declarations.{Declaration}
 use Rattle.cv_syntax_trees.specs.Tree.{Tree, same_tree}
 use Rattle.cv_syntax_trees.proofs.Equality.{same_tree_exact}
 use Rattle.cv_meaning.specs.contexts.Groups.{Function}
-use Rattle.cv_directory_sorts.specs.Sites.{first_of}
+use Rattle.cv_syntax_trees.specs.sites.Sites.{first_of}
 use Rattle.cv_scene.specs.Sights.{variable_of}
 use Rattle.cv_scene.specs.Instances.{Call, Instance, IsInstance, Matching, are_of_types, call_at, call_by, filled, first_call, guess, is_argument_of, is_coin_of, is_instance, is_read_of}
 use Rattle.cv_scene.specs.LeftTerms.{HasLeftTerms, IsLeftFunction}

@@ -6,7 +6,7 @@ use Rattle.std.specs.Prelude.{nat_eq, slice_get}
 use Rattle.cv_syntax_trees.specs.Tree.{Tree, Empty, Node, first_place, second_place}
 use Rattle.cv_meaning.specs.Tapes.{Key_at, Made_at, New_at}
 use Rattle.cv_meaning.specs.contexts.Groups.{Group}
-use Rattle.cv_directory_sorts.specs.Sites.{first_of}
+use Rattle.cv_syntax_trees.specs.sites.Sites.{first_of}
 use Rattle.cv_scope_rules.specs.Context.{first_position, replications_below, second_position}
 use Rattle.cv_scope_rules.specs.declared.position.Position.{Position}
 use Rattle.cv_scope_rules.specs.declared.position.Position.TheVariants.{Anywhere}
@@ -22,7 +22,7 @@ use Rattle.cv_match_laws.specs.instances.Uses.{IsUsedAt, uses_outside}
 use Rattle.cv_match_laws.proofs.instances.Calls.{call_found}
 use Rattle.cv_match_laws.proofs.instances.Given.{Given, StandsFor, firsts, look_at, read_uses, stands_for}
 use Rattle.cv_match_laws.proofs.instances.Uses.{filled_alone, filled_uses, used_there}
-use Rattle.cv_lists.proofs.Each.{AllByRecursion_append}
+use Rattle.cv_syntax_trees.proofs.lists.Each.{AllByRecursion_append}
 
 abbrev coin_at : ℕ → ℕ → Coin
 coin_at z n = record { name = z; site = n }

@@ -1,7 +1,7 @@
 use Rattle.std.proofs.Common.{refl}
 use Rattle.cv_syntax_trees.specs.Tree.{same_tree, size}
 use Rattle.cv_scene.specs.lines.Given.{with_given}
-use Rattle.cv_directory_sorts.specs.Sites.{bound_sort, first_site}
+use Rattle.cv_syntax_trees.specs.sites.Sites.{bound_sort, first_site}
 use Rattle.cv_scope_rules.specs.typing.Signature.{names_in}
 use Rattle.cv_scene.specs.Instances.{standing_for}
 use Rattle.cv_scene.specs.Sites.{sites_in}

@@ -11,7 +11,7 @@ use Rattle.cv_syntax.proofs.Trees.{tree_of_NoTree}
 use Rattle.cv_meaning.specs.contexts.Groups.{function_of, functions_of}
 use Rattle.cv_match_terms.specs.declared.heads.heads.Heads.{Heads}
 use Rattle.cv_match_terms.specs.heads.Beginnings.{begins, has_code, is_code, code_of, may_begin, same_code}
-use Rattle.cv_lists.proofs.Tests.{or_false, or_assoc}
+use Rattle.cv_syntax_trees.proofs.lists.Tests.{or_false, or_assoc}
 
 or_true : (a : Bool) → (a || true) ≡ true
 or_true true = refl

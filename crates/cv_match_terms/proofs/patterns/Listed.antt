@@ -4,7 +4,7 @@ use Rattle.std.specs.Prelude.{◌||◌}
 use Rattle.cv_syntax_trees.specs.declared.head.Head.TheVariants.{Binder}
 use Rattle.cv_syntax_trees.specs.Tree.{Tree, Empty, Node}
 use Rattle.cv_syntax.proofs.Trees.{tree_of_NoTree}
-use Rattle.cv_lists.proofs.Tests.{equals_comm}
+use Rattle.cv_syntax_trees.proofs.lists.Tests.{equals_comm}
 use Rattle.cv_meaning.specs.Correspondences.{typed_names}
 use Rattle.cv_scope_rules.specs.Made.{is_bound}
 use Rattle.cv_scene.specs.Refusals.{is_among}

@@ -17,7 +17,7 @@ use Rattle.cv_scene.specs.Scenes.{or_empty}
 use Rattle.cv_scene.specs.Instances.{Instance, are_of_types, guess, names_of, standing_for, term_for, terms_of}
 use Rattle.cv_scene.specs.Refusals.{is_among}
 use Rattle.cv_match_terms.specs.patterns.Searches.{filled_by, filled_part, given_by, is_name, is_whole}
-use Rattle.cv_lists.proofs.Places.{reverse_cons}
+use Rattle.cv_syntax_trees.proofs.lists.Places.{reverse_cons}
 
 pub filled_empty : (g : Group) (f : Function) (m : Tree) → filled_part g f m Empty ≡ Empty
 unfolding filled_part with_given

@@ -5,7 +5,7 @@ use Rattle.cv_syntax_trees.specs.declared.head.Head.{Head}
 use Rattle.cv_syntax_trees.specs.declared.head.Head.TheVariants.{Leaf}
 use Rattle.cv_syntax_trees.specs.Tree.{Tree, Empty, Node, first, second}
 use Rattle.cv_syntax.proofs.Trees.{tree_of_NoTree}
-use Rattle.cv_directory_sorts.specs.Sites.{first_of}
+use Rattle.cv_syntax_trees.specs.sites.Sites.{first_of}
 use Rattle.cv_scene.specs.Instances.{standing_for, standing_here}
 use Rattle.cv_match_terms.specs.patterns.Searches.{stands_in}
 

@@ -3,7 +3,7 @@ use Rattle.std.proofs.Common.{◌≡◌, ℕ, zero, suc, ◌+◌, ◌<◌, ◌^�
 use Rattle.std.specs.declared.alloc.AllocError.{AllocError}
 use Rattle.std.specs.Prelude.{if◌then◌else◌, ◌==◌, ◌||◌}
 use Rattle.std.proofs.lemmas.List.{get_or_default, get_or-set_other, get_or-set_same}
-use Rattle.cv_lists.proofs.Tests.{equals_comm, equals_refl}
+use Rattle.cv_syntax_trees.proofs.lists.Tests.{equals_comm, equals_refl}
 use Rattle.cv_syntax_trees.specs.declared.head.Head.{Head}
 use Rattle.cv_syntax_trees.specs.declared.head.Head.TheVariants.{Binder, Branch, Call, In, Key, Leaf, Let, New, Read}
 use Rattle.cv_syntax_trees.specs.Tree.{Tree, Empty, Node, second}

@@ -8,8 +8,8 @@ use Rattle.cv_syntax_trees.specs.declared.head.Head.{Head}
 use Rattle.cv_syntax_trees.specs.declared.head.Head.TheVariants.{Leaf}
 use Rattle.cv_syntax_trees.specs.Tree.{Tree, same_tree, size}
 use Rattle.cv_syntax.specs.PoolTrees.{tree_at}
-use Rattle.cv_directory_sorts.specs.declared.sort.Sort.TheVariants.{OfType}
-use Rattle.cv_directory_sorts.specs.Sites.{sites_of}
+use Rattle.cv_syntax_trees.specs.declared.sites.sort.Sort.TheVariants.{OfType}
+use Rattle.cv_syntax_trees.specs.sites.Sites.{sites_of}
 use Rattle.cv_scope_rules.specs.typing.Parts.{game_part, nothing_above, signature_of}
 use Rattle.cv_scope_rules.specs.typing.Signature.{OfGame, Signature, sort_of}
 use Rattle.cv_typing.specs.Tables.{above_of, arrays_of}

@@ -1,6 +1,6 @@
 use crate::heads::Heads;
-use cv_directory_sorts::Sort;
 use cv_syntax::NodeId;
+use cv_syntax_trees::sites::Sort;
 use cv_typing::Arrays;
 use std::collections::HashMap;
 

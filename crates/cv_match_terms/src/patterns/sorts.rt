@@ -3,7 +3,7 @@ ghost use Rattle.cv_pool.specs.Nodes.{ChildBelow};
 ghost use Rattle.cv_syntax.specs.PoolTrees.{tree_at};
 ghost use Rattle.cv_meaning.specs.Correspondences.{typed_names};
 ghost use Rattle.cv_meaning.specs.contexts.Groups.{function_of};
-ghost use Rattle.cv_directory_sorts.specs.declared.sort.Sort.TheVariants.{OfType};
+ghost use Rattle.cv_syntax_trees.specs.declared.sites.sort.Sort.TheVariants.{OfType};
 ghost use Rattle.cv_scene.specs.Instances.{are_of_types, term_for};
 ghost use Rattle.cv_scene.specs.Terms as terms;
 ghost use Rattle.cv_match_terms.specs.patterns.Searches.{IsReady, may_be_argument, may_be_coin, signature_by};
@@ -11,8 +11,8 @@ ghost use Rattle.cv_match_terms.specs.patterns.Searches.{IsReady, may_be_argumen
 use crate::patterns::filling::term_of;
 use crate::patterns::names::variable_of;
 use crate::patterns::search::Search;
-use cv_directory_sorts::Sort;
 use cv_syntax::{Head, NodeId, Work, read_node};
+use cv_syntax_trees::sites::Sort;
 use cv_typing::sort_of_term;
 
 /// Whether a sort is that of the values of a type.

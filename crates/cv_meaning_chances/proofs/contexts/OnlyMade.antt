@@ -14,7 +14,7 @@ use Rattle.cv_meaning.specs.contexts.Frames.{Frame, IsCall, with_call, meaning_o
 use Rattle.cv_meaning.specs.contexts.BodyTerms.{call_meant, call_at, array_at, body_value}
 use Rattle.cv_meaning.specs.contexts.Finds.{Oracles, Pick, has_bound, function_of_site, is_made, are_made, pick, picks_at, picks}
 use Rattle.cv_meaning.specs.contexts.Made.{WasMade, is_index, has_cell_at, have_own_cells}
-use Rattle.cv_lists.proofs.Each.{AllByRecursion_append}
+use Rattle.cv_syntax_trees.proofs.lists.Each.{AllByRecursion_append}
 
 abbrev IsMade : Frame → Pick → Type 0
 IsMade e c = WasMade e c.number

@@ -33,7 +33,7 @@ use Rattle.cv_meaning_chances.specs.thinning.Thinning.{HasBody, IsThinned, binds
 use Rattle.cv_meaning_chances.proofs.thinning.Guards.{candidates_thinned}
 use Rattle.cv_meaning_chances.proofs.thinning.Branches.{branch_count, chosen_below}
 use Rattle.cv_meaning_runs.proofs.Replacement.{agree_refl, in_order_flat}
-use Rattle.cv_lists.proofs.Each.{AllByRecursion_trivial}
+use Rattle.cv_syntax_trees.proofs.lists.Each.{AllByRecursion_trivial}
 
 module _ (xs : ℕ → Bool) where
   abbrev Like : Input → Input → Type 0

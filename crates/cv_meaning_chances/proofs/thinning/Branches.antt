@@ -7,7 +7,7 @@ use Rattle.cv_meaning.specs.Memory.{Store, Indices, tuple}
 use Rattle.cv_meaning.specs.Binders.{bound_to, fits}
 use Rattle.cv_meaning.specs.Candidates.{Candidate, candidate, candidates, candidates_at, chosen, is_candidate, most_indices, tuples_up_to, widest}
 use Rattle.cv_meaning_laws.proofs.Lists.{each_flat_map}
-use Rattle.cv_lists.proofs.Each.{AllByRecursion_append}
+use Rattle.cv_syntax_trees.proofs.lists.Each.{AllByRecursion_append}
 
 abbrev pub branch_count : Tree → ℕ
 branch_count Empty = 0

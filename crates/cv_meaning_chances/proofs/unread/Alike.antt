@@ -31,7 +31,7 @@ use Rattle.cv_meaning_chances.specs.unread.Dropping.{reads_none, IsDropped, same
 use Rattle.cv_meaning.specs.Still.{defines}
 use Rattle.cv_meaning_chances.proofs.unread.Unread.{first_reads, second_reads, first_part, second_part, put_agrees, put_aside, bound_agrees, value_same, values_same, candidates_same}
 use Rattle.cv_meaning_runs.proofs.Replacement.{agree_refl, in_order_flat}
-use Rattle.cv_lists.proofs.Each.{AllByRecursion_trivial}
+use Rattle.cv_syntax_trees.proofs.lists.Each.{AllByRecursion_trivial}
 
 module _ (xs : ℕ → Bool) where
   abbrev Like : Input → Input → Type 0

@@ -4,6 +4,7 @@ use Rattle.std.proofs.lemmas.Bool.{both_ways, and_parts, not-true}
 use Rattle.cv_syntax_trees.specs.declared.head.Head.{Head}
 use Rattle.cv_syntax_trees.specs.declared.head.Head.TheVariants.{Par, New, Let, If, Find, Branch, Binder, Cons, Key, Call}
 use Rattle.cv_syntax_trees.specs.Tree.{Tree, Empty, Node}
+use Rattle.cv_syntax_trees.specs.lists.Options.{first_of}
 use Rattle.cv_meaning.specs.Tapes.{Cell, Tape, New_at, blank, same_cell, is_in}
 use Rattle.cv_meaning.specs.Interpretation.{Setting}
 use Rattle.cv_meaning.specs.Runs.{Mode, Events, Real, Random, Adversary}
@@ -24,29 +25,25 @@ use Rattle.cv_meaning_laws.proofs.Listed.{apart_back}
 
 -- lists
 
-abbrev or_else : Option ℕ → Option ℕ → Option ℕ
-or_else None o = o
-or_else (Some n) o = Some n
+pub first_none : (o : Option ℕ) → first_of o None ≡ o
+first_none None = refl
+first_none (Some n) = refl
 
-or_none : (o : Option ℕ) → or_else o None ≡ o
-or_none None = refl
-or_none (Some n) = refl
-
-or_twice : (o q : Option ℕ) → or_else o (or_else o q) ≡ or_else o q
+or_twice : (o q : Option ℕ) → first_of o (first_of o q) ≡ first_of o q
 or_twice None q = refl
 or_twice (Some n) q = refl
 
-size_append : (cs ds : List (Cell × ℕ)) (d : Cell) → size_in (cs ++ ds) d ≡ or_else (size_in cs d) (size_in ds d)
+pub size_append : (cs ds : List (Cell × ℕ)) (d : Cell) → size_in (cs ++ ds) d ≡ first_of (size_in cs d) (size_in ds d)
 size_append [] ds d = refl
 size_append (c ∷ cs) ds d = go (same_cell c.0 d) (size_append cs ds d)
   where
-    go : (b : Bool) → size_in (cs ++ ds) d ≡ or_else (size_in cs d) (size_in ds d) → cond b (Some c.1) (size_in (cs ++ ds) d) ≡ or_else (cond b (Some c.1) (size_in cs d)) (size_in ds d)
+    go : (b : Bool) → size_in (cs ++ ds) d ≡ first_of (size_in cs d) (size_in ds d) → cond b (Some c.1) (size_in (cs ++ ds) d) ≡ first_of (cond b (Some c.1) (size_in cs d)) (size_in ds d)
     go true k = refl
     go false k = k
 
 pub size_each : {A : Type 0} (f : A → List (Cell × ℕ)) (d : Cell) → ((x : A) → size_in (f x) d ≡ None) → (xs : List A) → size_in (flat_map f xs) d ≡ None
 size_each f d e [] = refl
-size_each f d e (x ∷ xs) = size_append (f x) (flat_map f xs) d ∙ ap₂ or_else (e x) (size_each f d e xs)
+size_each f d e (x ∷ xs) = size_append (f x) (flat_map f xs) d ∙ ap₂ first_of (e x) (size_each f d e xs)
 
 pub is_in_size : (cs : List (Cell × ℕ)) (d : Cell) → size_in cs d ≡ None → is_in cs d ≡ false
 is_in_size [] d e = refl
@@ -124,12 +121,12 @@ module _ (g : Setting) (give : Head → List ℕ → List (Cell × ℕ)) (d : Ce
   abbrev own_size : List ℕ → Head → Option ℕ
   own_size bounds h = size_in (flat_map (give h) (tuples_below bounds)) d
 
-  size_node : (bounds : List ℕ) (h : Head) (a b : Tree) → size_at bounds (Node h a b) ≡ or_else (own_size bounds h) (or_else (size_at (bounds_under g bounds h) a) (size_at (bounds_under g bounds h) b))
+  size_node : (bounds : List ℕ) (h : Head) (a b : Tree) → size_at bounds (Node h a b) ≡ first_of (own_size bounds h) (first_of (size_at (bounds_under g bounds h) a) (size_at (bounds_under g bounds h) b))
   unfolding at_each_copy
   size_node bounds h a b =
       let under : List ℕ = bounds_under g bounds h in
       size_append (flat_map (give h) (tuples_below bounds)) (at_each_copy g give under a ++ at_each_copy g give under b) d
-      ∙ ap (or_else (own_size bounds h)) (size_append (at_each_copy g give under a) (at_each_copy g give under b) d)
+      ∙ ap (first_of (own_size bounds h)) (size_append (at_each_copy g give under a) (at_each_copy g give under b) d)
 
   size_empty : (bounds : List ℕ) → size_at bounds Empty ≡ None
   unfolding at_each_copy
@@ -137,7 +134,7 @@ module _ (g : Setting) (give : Head → List ℕ → List (Cell × ℕ)) (d : Ce
 
   under_node : (bounds : List ℕ) (h : Head) (a b c e : Tree) → size_at (bounds_under g bounds h) a ≡ size_at (bounds_under g bounds h) c → size_at (bounds_under g bounds h) b ≡ size_at (bounds_under g bounds h) e
       → size_at bounds (Node h a b) ≡ size_at bounds (Node h c e)
-  under_node bounds h a b c e x y = size_node bounds h a b ∙ ap₂ (λ o q. or_else (own_size bounds h) (or_else o q)) x y ∙ sym (size_node bounds h c e)
+  under_node bounds h a b c e x y = size_node bounds h a b ∙ ap₂ (λ o q. first_of (own_size bounds h) (first_of o q)) x y ∙ sym (size_node bounds h c e)
 
   module _ (still : (h : Head) (u : List ℕ) → head_is_still h ≡ true → size_in (give h u) d ≡ None) where
     own_still : (bounds : List ℕ) (h : Head) → head_is_still h ≡ true → own_size bounds h ≡ None
@@ -148,7 +145,7 @@ module _ (g : Setting) (give : Head → List ℕ → List (Cell × ℕ)) (d : Ce
     still_size bounds (Node h a b) e =
         let p = and_parts (head_is_still h) _ e in
         let q = and_parts (is_still a) _ p.1 in
-        size_node bounds h a b ∙ (λ i. or_else (own_still bounds h p.0 i) (or_else (still_size (bounds_under g bounds h) a q.0 i) (still_size (bounds_under g bounds h) b q.1 i)))
+        size_node bounds h a b ∙ (λ i. first_of (own_still bounds h p.0 i) (first_of (still_size (bounds_under g bounds h) a q.0 i) (still_size (bounds_under g bounds h) b q.1 i)))
 
     -- without some definitions
 
@@ -162,7 +159,7 @@ module _ (g : Setting) (give : Head → List ℕ → List (Cell × ℕ)) (d : Ce
       dropped_size bounds b c (same e) = refl
       dropped_size bounds b c (gone {h = h} {a = a} {b = x} e f o z) =
           size_node bounds h a x
-          ∙ (λ i. or_else (size_each (give h) d (λ u. free h u e) (tuples_below bounds) i) (or_else (still_size (bounds_under g bounds h) a f i) (size_at (same_bounds bounds h e i) x)))
+          ∙ (λ i. first_of (size_each (give h) d (λ u. free h u e) (tuples_below bounds) i) (first_of (still_size (bounds_under g bounds h) a f i) (size_at (same_bounds bounds h e i) x)))
           ∙ dropped_size bounds x c z
       dropped_size bounds b c (kept {h = h} {a = a} {b = x} {c = y} e z) = under_node bounds h a x a y refl (dropped_size (bounds_under g bounds h) x y z)
       dropped_size bounds b c (in_parallel {a = a} {b = x} {c = e} {d = y} w z) = under_node bounds Par a x e y (dropped_size bounds a e w) (dropped_size bounds x y z)
@@ -182,11 +179,11 @@ module _ (g : Setting) (give : Head → List ℕ → List (Cell × ℕ)) (d : Ce
     unfolding at_each_copy
     twice_size bounds condition body e =
         let one : Tree = Node Cons body Empty in
-        let own : (h : Head) → head_is_still h ≡ true → (a b : Tree) → bounds_under g bounds h ≡ bounds → size_at bounds (Node h a b) ≡ or_else (size_at bounds a) (size_at bounds b) =
-        λ (h : Head) (f : head_is_still h ≡ true) (a b : Tree) (u : bounds_under g bounds h ≡ bounds). size_node bounds h a b ∙ (λ i. or_else (own_still bounds h f i) (or_else (size_at (u i) a) (size_at (u i) b))) in
-        let last : size_at bounds one ≡ size_at bounds body = own Cons refl body Empty refl ∙ or_none (size_at bounds body) in
-        let bodies : size_at bounds (Node Cons body one) ≡ size_at bounds body = own Cons refl body one refl ∙ ap (or_else (size_at bounds body)) (last ∙ sym (or_none (size_at bounds body))) ∙ or_twice (size_at bounds body) None ∙ or_none (size_at bounds body) in
-        sym (own If refl condition (Node Cons body one) refl ∙ ap₂ or_else (still_size bounds condition e) bodies)
+        let own : (h : Head) → head_is_still h ≡ true → (a b : Tree) → bounds_under g bounds h ≡ bounds → size_at bounds (Node h a b) ≡ first_of (size_at bounds a) (size_at bounds b) =
+        λ (h : Head) (f : head_is_still h ≡ true) (a b : Tree) (u : bounds_under g bounds h ≡ bounds). size_node bounds h a b ∙ (λ i. first_of (own_still bounds h f i) (first_of (size_at (u i) a) (size_at (u i) b))) in
+        let last : size_at bounds one ≡ size_at bounds body = own Cons refl body Empty refl ∙ first_none (size_at bounds body) in
+        let bodies : size_at bounds (Node Cons body one) ≡ size_at bounds body = own Cons refl body one refl ∙ ap (first_of (size_at bounds body)) (last ∙ sym (first_none (size_at bounds body))) ∙ or_twice (size_at bounds body) None ∙ first_none (size_at bounds body) in
+        sym (own If refl condition (Node Cons body one) refl ∙ ap₂ first_of (still_size bounds condition e) bodies)
 
     pub replaced_size : (condition body : Tree) (place : ℕ) → is_still condition ≡ true → (part : Part) (p : ℕ) (bounds : List ℕ) (b c : Tree) → IsReplaced body (if_tree condition body body) place part p b c → size_at bounds b ≡ size_at bounds c
     replaced_size condition body place e part p bounds b c at.here = twice_size bounds condition body e
@@ -246,16 +243,16 @@ free_tests g xs x d f (New y T) u e = ap (λ b. size_in (if_tested b u (g.interp
 free_tests g xs x d f (Let y T) u e = ap (λ b. size_in (if_tested b u (g.interpretation.type_size T)) d) (untested xs x y f e)
 free_tests g xs x d f h u e = absurd (both_ways false refl e)
 
-cells_size : (g : Setting) (m : Mode) (a : Adversary) (game : Tree) (d : Cell) → size_in (cells g m a game) d ≡ or_else (size_in (at_each_copy g (cells_at g) [] game) d) (or_else (size_in (test_cells g m game) d) (size_in (coin_cells 0 a.coins) d))
+cells_size : (g : Setting) (m : Mode) (a : Adversary) (game : Tree) (d : Cell) → size_in (cells g m a game) d ≡ first_of (size_in (at_each_copy g (cells_at g) [] game) d) (first_of (size_in (test_cells g m game) d) (size_in (coin_cells 0 a.coins) d))
 unfolding cells
 cells_size g m a game d =
     size_once (at_each_copy g (cells_at g) [] game ++ (test_cells g m game ++ coin_cells 0 a.coins)) d
     ∙ size_append (at_each_copy g (cells_at g) [] game) (test_cells g m game ++ coin_cells 0 a.coins) d
-    ∙ ap (or_else (size_in (at_each_copy g (cells_at g) [] game) d)) (size_append (test_cells g m game) (coin_cells 0 a.coins) d)
+    ∙ ap (first_of (size_in (at_each_copy g (cells_at g) [] game) d)) (size_append (test_cells g m game) (coin_cells 0 a.coins) d)
 
 both_sizes : (g : Setting) (m : Mode) (a : Adversary) (game next : Tree) (d : Cell) → size_in (at_each_copy g (cells_at g) [] game) d ≡ size_in (at_each_copy g (cells_at g) [] next) d → size_in (test_cells g m game) d ≡ size_in (test_cells g m next) d
     → size_in (cells g m a game) d ≡ size_in (cells g m a next) d
-both_sizes g m a game next d e f = cells_size g m a game d ∙ ap₂ (λ o q. or_else o (or_else q (size_in (coin_cells 0 a.coins) d))) e f ∙ sym (cells_size g m a next d)
+both_sizes g m a game next d e f = cells_size g m a game d ∙ ap₂ (λ o q. first_of o (first_of q (size_in (coin_cells 0 a.coins) d))) e f ∙ sym (cells_size g m a next d)
 
 dropped_tests : (g : Setting) (m : Mode) (xs : ℕ → Bool) (game next : Tree) (d : Cell) → IsDropped xs Process game next → IsUntested xs m → size_in (test_cells g m game) d ≡ size_in (test_cells g m next) d
 dropped_tests g Events xs game next d z e = refl
@@ -296,8 +293,8 @@ undrawn_copies g xs y v e bounds (Node h a b) f n =
     let r = and_parts (head_is_no_call h) _ n in
     let s = and_parts (has_no_calls a) _ r.1 in
     size_node g (cells_at g) (New_at y v) bounds h a b
-    ∙ (λ i. or_else (size_each (cells_at g h) (New_at y v) (λ u. undrawn_at g xs y v e h u p.0 r.0) (tuples_below bounds) i)
-    (or_else (undrawn_copies g xs y v e (bounds_under g bounds h) a q.0 s.0 i) (undrawn_copies g xs y v e (bounds_under g bounds h) b q.1 s.1 i)))
+    ∙ (λ i. first_of (size_each (cells_at g h) (New_at y v) (λ u. undrawn_at g xs y v e h u p.0 r.0) (tuples_below bounds) i)
+    (first_of (undrawn_copies g xs y v e (bounds_under g bounds h) a q.0 s.0 i) (undrawn_copies g xs y v e (bounds_under g bounds h) b q.1 s.1 i)))
 
 -- no cell of a test or a coin is one of a `new`
 
@@ -315,7 +312,7 @@ copies_apart : (g : Setting) (give : Head → List ℕ → List (Cell × ℕ)) (
 copies_apart g give d e bounds Empty = size_empty g give d bounds
 copies_apart g give d e bounds (Node h a b) =
     size_node g give d bounds h a b
-    ∙ (λ i. or_else (size_each (give h) d (λ u. e h u) (tuples_below bounds) i) (or_else (copies_apart g give d e (bounds_under g bounds h) a i) (copies_apart g give d e (bounds_under g bounds h) b i)))
+    ∙ (λ i. first_of (size_each (give h) d (λ u. e h u) (tuples_below bounds) i) (first_of (copies_apart g give d e (bounds_under g bounds h) a i) (copies_apart g give d e (bounds_under g bounds h) b i)))
 
 tests_apart : (g : Setting) (m : Mode) (y : ℕ) (v : List ℕ) (game : Tree) → size_in (test_cells g m game) (New_at y v) ≡ None
 tests_apart g Events y v game = refl
@@ -329,5 +326,5 @@ coins_apart k (n ∷ ns) y v = coins_apart (suc k) ns y v
 pub undrawn : (g : Setting) (m : Mode) (a : Adversary) (xs : ℕ → Bool) (game : Tree) (d : Cell) → draws_none xs game ≡ true → has_no_calls game ≡ true → is_drawn xs d ≡ true → is_in (cells g m a game) d ≡ false
 undrawn g m a xs game (New_at y v) f n e =
     is_in_size (cells g m a game) (New_at y v)
-    (cells_size g m a game (New_at y v) ∙ (λ i. or_else (undrawn_copies g xs y v e [] game f n i) (or_else (tests_apart g m y v game i) (coins_apart 0 a.coins y v i))))
+    (cells_size g m a game (New_at y v) ∙ (λ i. first_of (undrawn_copies g xs y v e [] game f n i) (first_of (tests_apart g m y v game i) (coins_apart 0 a.coins y v i))))
 undrawn g m a xs game d f n e = absurd (both_ways false refl e)

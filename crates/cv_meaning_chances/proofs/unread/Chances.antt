@@ -29,7 +29,7 @@ use Rattle.cv_meaning.specs.Still.{is_still}
 use Rattle.cv_meaning_chances.specs.unread.Sizes.{size_in, GiveSizesFor}
 use Rattle.cv_meaning_chances.proofs.unread.Alike.{holds_without}
 use Rattle.cv_meaning_chances.proofs.unread.CellSizes.{is_drawn, undrawn, other_sizes, split_sizes, same_by_sizes}
-use Rattle.cv_lists.proofs.Each.{AllByRecursion_trivial}
+use Rattle.cv_syntax_trees.proofs.lists.Each.{AllByRecursion_trivial}
 
 -- So the experiment has one chance in both games.
 pub chance_without : (g : Setting) (x : Experiment) (a : Adversary) (xs : ℕ → Bool) (game next : Tree) → IsLocal g.side → IsTestable (mode_of x) next → has_no_calls next ≡ true → draws_none xs next ≡ true

@@ -15,7 +15,7 @@ use Rattle.cv_meaning_chances.specs.Tests.{HasValues}
 use Rattle.cv_meaning_chances.specs.Fractions.{HasTapes}
 use Rattle.cv_meaning_chances.proofs.Totals.{once_values, chance_has_tapes, coins_values}
 use Rattle.cv_meaning_chances.specs.values.Values.{is_tested, ConstructHasValues, HasValuesIn}
-use Rattle.cv_lists.proofs.Each.{AllByRecursion_append}
+use Rattle.cv_syntax_trees.proofs.lists.Each.{AllByRecursion_append}
 
 abbrev HasValue : Cell × ℕ → Type 0
 HasValue c = 0 < c.1

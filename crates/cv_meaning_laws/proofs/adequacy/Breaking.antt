@@ -12,7 +12,7 @@ use Rattle.cv_meaning_laws.proofs.Counts.{same_tuple_refl, same_tuple_exact}
 use Rattle.cv_meaning_laws.proofs.Listed.{Has, has_left, has_right, has_map, has_flat_map}
 use Rattle.cv_meaning_laws.specs.adequacy.Broken.{StandsAt, AreValues, query_values, right_event, Holds, HoldsWith, IsMarkedAt, IsMet, HasUnmet}
 use Rattle.cv_meaning_laws.proofs.adequacy.Lists.{any_has, has_any, has_append, flat_map_has, map_has, stands_has, has_stands, contains_has, has_contains, all_stands, stands_all, below_has, has_below}
-use Rattle.cv_lists.proofs.Tests.{or_cases}
+use Rattle.cv_syntax_trees.proofs.lists.Tests.{or_cases}
 
 -- right events
 

@@ -6,7 +6,7 @@ use Rattle.std.specs.List.{list_any, list_all, All, Contains}
 use Rattle.cv_meaning.specs.Candidates.{below}
 use Rattle.cv_meaning_laws.proofs.Listed.{Has, has_left, has_right}
 use Rattle.cv_meaning_laws.specs.adequacy.Broken.{StandsAt}
-use Rattle.cv_lists.proofs.Tests.{or_cases}
+use Rattle.cv_syntax_trees.proofs.lists.Tests.{or_cases}
 
 pub any_has : {A : Type 0} (p : A → Bool) (xs : List A) → list_any p xs ≡ true → (x : A) × Has xs x × (p x ≡ true)
 any_has p [] h = absurd (both_ways _ refl h)

@@ -10,7 +10,7 @@ use Rattle.cv_meaning_laws.proofs.Listed.{has_flat_map}
 use Rattle.cv_meaning_laws.specs.adequacy.Broken.{AreValues, query_values, IsLeftAt, IsMarkedAt, IsMet, AllMet, HasUnmet, Choice, HasMatching, IsKept, IsBroken}
 use Rattle.cv_meaning_laws.proofs.adequacy.Lists.{any_has, has_any, flat_map_has, contains_has, has_contains}
 use Rattle.cv_meaning_laws.proofs.adequacy.Breaking.{names, assigned_values, values_assigned, unmet, met_means, means_met, plain_means, means_plain, Used, IsUsedBy, used_with, used_kept, used_new, used_only, AtomsHold, Fresh, Way, ways_sound, ways_complete}
-use Rattle.cv_lists.proofs.Tests.{false_from}
+use Rattle.cv_syntax_trees.proofs.lists.Tests.{false_from}
 
 -- a choice for some left events, with positions that were used before
 pub record Matches (g : Setting) (q : Correspondence) (es lefts : List Happened) (used : Used) (c : Choice) : Type 0 where

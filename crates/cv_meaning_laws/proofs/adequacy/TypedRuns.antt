@@ -22,7 +22,7 @@ use Rattle.cv_meaning_laws.specs.adequacy.Typed.{Sort, OfType, BelowParameter, s
 use Rattle.cv_meaning_laws.proofs.adequacy.Lists.{below_has, stands_has}
 use Rattle.cv_meaning_laws.proofs.adequacy.Finding.{has_candidate}
 use Rattle.cv_meaning_laws.proofs.adequacy.Sorted.{some_value, typed_value, typed_values}
-use Rattle.cv_lists.proofs.Each.{AllByRecursion_append}
+use Rattle.cv_syntax_trees.proofs.lists.Each.{AllByRecursion_append}
 
 -- indices
 

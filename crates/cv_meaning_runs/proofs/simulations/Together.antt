@@ -15,7 +15,7 @@ use Rattle.cv_meaning_runs.specs.Simulation.{InOrder, AreAlike}
 use Rattle.cv_meaning_runs.proofs.Simulation.{in_order_append}
 use Rattle.cv_meaning_runs.proofs.Together.{coins_same}
 use Rattle.cv_meaning_runs.specs.simulations.Moments.{AreMomentsAlike, tests_among, AreExpected, IsMomentSimulation, IsMomentGameSimulation, AreVisitedAlike}
-use Rattle.cv_lists.proofs.Each.{AllByRecursion_left, AllByRecursion_right}
+use Rattle.cv_syntax_trees.proofs.lists.Each.{AllByRecursion_left, AllByRecursion_right}
 
 expected_visits : (E : Moment → Type 0) (vs : List Visit) → AllByRecursion E (map Visited vs) → AreExpected E vs
 expected_visits E [] w = tt

@@ -1,7 +1,7 @@
 -- The grammar of files is firm: each level opens at a token of its own, and before a phrase one level down there is one.
 use Rattle.std.proofs.Common.{◌≡◌, Bool, true, refl}
 use Rattle.std.specs.Prelude.{◌&&◌}
-use Rattle.cv_lists.proofs.Tests.{and_first, and_second}
+use Rattle.cv_syntax_trees.proofs.lists.Tests.{and_first, and_second}
 use Rattle.cv_parse_grammar.specs.Phrases.{Sort, Term, Conjunction, Primary, Unequal, Arguments, Subscript, Parentheses, Inputs, Input, Output, Pattern, Sending, Payload, Variables, Indices, ProcessBranch, Cells, OneCell, Body, BodyBranch, LeftFunction, RightFunction, RightRest, RightSide, Braces}
 use Rattle.cv_parse_grammar.specs.Rules.{rule, heads, tails, file}
 use Rattle.cv_parse_grammar.specs.Terms.{term}

@@ -1,7 +1,7 @@
 -- What reading answers of a token that stands in a phrase: it passes it, or names one that stands too deep.
 use Rattle.std.proofs.Common.{◌≡◌, ℕ, zero, suc, ◌<◌, ◌≤◌, Bool, true, false, ◌&&◌, not, inl, inr, List, [], ◌∷◌, length, refl, ap, sym, arith, subst, Some, None, Err}
 use Rattle.std.proofs.lemmas.Bool.{not-true}
-use Rattle.cv_lists.proofs.Tests.{and_first, and_second}
+use Rattle.cv_syntax_trees.proofs.lists.Tests.{and_first, and_second}
 use Rattle.cv_syntax_trees.specs.Tree.{Tree}
 use Rattle.cv_parse_notation.specs.declared.script.ScriptWord.{ScriptWord}
 use Rattle.cv_parse_notation.specs.declared.sign.Mark.{Mark}

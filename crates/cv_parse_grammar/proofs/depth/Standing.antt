@@ -1,6 +1,6 @@
 -- A token that reading refuses for its depth stands one level deeper than the levels reach.
 use Rattle.std.proofs.Common.{◌≡◌, ◌⊎◌, ℕ, zero, suc, ◌-◌, ◌≤◌, Bool, true, false, ◌&&◌, ◌||◌, not, inl, inr, List, [], ◌∷◌, length, refl, ap, sym, ◌∙◌, arith, subst, Option, Some, None, Ok, Err}
-use Rattle.cv_lists.proofs.Tests.{and_first, and_second}
+use Rattle.cv_syntax_trees.proofs.lists.Tests.{and_first, and_second}
 use Rattle.cv_syntax_trees.specs.Tree.{Tree}
 use Rattle.cv_parse_notation.specs.declared.script.ScriptWord.{ScriptWord}
 use Rattle.cv_parse_notation.specs.declared.sign.Mark.{Mark}

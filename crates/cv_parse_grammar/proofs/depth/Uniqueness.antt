@@ -1,6 +1,6 @@
 -- A token stands at one depth only.
 use Rattle.std.proofs.Common.{◌≡◌, ℕ, zero, suc, ◌+◌, ◌<◌, ◌≤◌, Bool, true, false, not, inl, inr, List, length, ap, sym, ◌∙◌, arith, subst}
-use Rattle.cv_lists.proofs.Tests.{and_second}
+use Rattle.cv_syntax_trees.proofs.lists.Tests.{and_second}
 use Rattle.cv_syntax_trees.specs.Tree.{Tree}
 use Rattle.cv_parse_notation.specs.declared.sign.Sign.{Sign}
 use Rattle.cv_parse_notation.specs.Fits.{apart, fits, goes_on}

@@ -1,7 +1,7 @@
 -- What is spelled is made of what the parts of its phrase are made of.
 use Rattle.std.proofs.Common.{◌≡◌, ℕ, zero, suc, Bool, true, false, List, [], ◌∷◌, ◌++◌, Option, Some, None, inl, inr, subst}
 use Rattle.std.specs.List.{AllByRecursion}
-use Rattle.cv_lists.proofs.Each.{AllByRecursion_left, AllByRecursion_right, AllByRecursion_weaker}
+use Rattle.cv_syntax_trees.proofs.lists.Each.{AllByRecursion_left, AllByRecursion_right, AllByRecursion_weaker}
 use Rattle.cv_syntax_trees.specs.Tree.{Tree}
 use Rattle.cv_parse_notation.specs.declared.sign.Mark.{Mark}
 use Rattle.cv_parse_notation.specs.declared.sign.Sign.{Sign}

@@ -13,7 +13,7 @@ use Rattle.cv_meaning_laws.proofs.Listed.{Has}
 use Rattle.cv_scope_rules.specs.typing.Signature.{declaration_of, function_by}
 use Rattle.cv_typing_runs.specs.Games.{HasConstants}
 use Rattle.cv_parse_laws.proofs.roles.DeclaredKinds.{OfKind}
-use Rattle.cv_lists.proofs.Tests.{or_cases}
+use Rattle.cv_syntax_trees.proofs.lists.Tests.{or_cases}
 
 -- the only declaration of a name is its first
 

@@ -23,7 +23,7 @@ use Rattle.cv_meaning_laws.specs.adequacy.Typed.{BelowParameter, IsDeclared, OfT
 use Rattle.cv_meaning_laws.proofs.adequacy.Lists.{any_has, has_any, has_contains}
 use Rattle.cv_parse_laws.proofs.roles.Rows.{Asked as AskedHere}
 use Rattle.cv_parse_laws.proofs.roles.DeclaredKinds.{DeclaredAs, OfKind, asked_of}
-use Rattle.cv_lists.proofs.Tests.{or_cases}
+use Rattle.cv_syntax_trees.proofs.lists.Tests.{or_cases}
 
 -- a use of a name in a role
 abbrev pub Used : Uses → Role → ℕ → Type 0

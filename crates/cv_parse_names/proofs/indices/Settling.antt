@@ -16,7 +16,7 @@ use Rattle.cv_parse_names.specs.indices.Sites.{defined_by, defining, tasks_at, p
 use Rattle.cv_parse_names.specs.declared.indices.sites.Task.{Task}
 use Rattle.cv_parse_names.specs.declared.indices.sites.Task.TheVariants.{Look, Define}
 use Rattle.cv_parse_names.proofs.indices.Pending.{Pending, pending_whole, pending_same, pending_before}
-use Rattle.cv_lists.specs.Options.{first_of}
+use Rattle.cv_syntax_trees.specs.lists.Options.{first_of}
 
 -- once the tasks are done, the first definitions in the tree are noted
 abbrev pub Settles : Tree → List Task → Numbers → List Tree → Type 0

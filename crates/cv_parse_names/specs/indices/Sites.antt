@@ -8,7 +8,7 @@ use Rattle.cv_syntax_trees.specs.Tree.{Tree}
 use Rattle.cv_parse_grammar.specs.Filled.{first_site, under}
 use Rattle.cv_parse_names.specs.declared.indices.sites.Task.{Task}
 use Rattle.cv_parse_names.specs.declared.indices.sites.Task.TheVariants.{Look, Define}
-use Rattle.cv_lists.specs.Options.{first_of}
+use Rattle.cv_syntax_trees.specs.lists.Options.{first_of}
 
 -- the variable that a node defines
 abbrev pub defined_by : Head → Option ℕ

@@ -3,7 +3,7 @@ use Rattle.std.proofs.Common.{◌≡◌, ℕ, Bool, true, false, ◌==◌, ◌&&
 use Rattle.std.proofs.lemmas.Bool.{and_parts, both_ways, or_cases, or_left}
 use Rattle.std.proofs.lemmas.List.Folds.{list_any-append}
 use Rattle.std.specs.List.{AllByRecursion}
-use Rattle.cv_lists.proofs.Each.{AllByRecursion_append, AllByRecursion_flat_map, AllByRecursion_left}
+use Rattle.cv_syntax_trees.proofs.lists.Each.{AllByRecursion_append, AllByRecursion_flat_map, AllByRecursion_left}
 use Rattle.cv_syntax_trees.specs.declared.class.Class.{Class}
 use Rattle.cv_syntax_trees.specs.declared.head.Head.TheVariants.{Cons, Query as Correspondence, Secret, SecretOnce}
 use Rattle.cv_syntax_trees.specs.Declarations.{Declaration, Query}

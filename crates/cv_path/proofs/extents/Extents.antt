@@ -11,7 +11,7 @@ use Rattle.cv_path.specs.Places.{LiesAt}
 use Rattle.cv_path.specs.Ways.{turned}
 use Rattle.cv_path.proofs.Bounds.{no_subtree}
 use Rattle.cv_path.proofs.Going.{replaced_here, replaced_within, replaced_behind}
-use Rattle.cv_lists.proofs.Numbers.{below_or_not}
+use Rattle.cv_syntax_trees.proofs.lists.Numbers.{below_or_not}
 
 -- a tree with another part has the nodes of the new part in place of those of the old one
 pub size_replaced : (t : Tree) (p : ℕ) (new part : Tree) → subtree t p ≡ Some part → size (replaced t p new) + size part ≡ size t + size new

@@ -20,7 +20,7 @@ use Rattle.cv_print_back.proofs.files.ProcessTales.{IsProcess}
 use Rattle.cv_print_back.proofs.files.Rows.{StandsAt, of_inputs, rows_stand}
 use Rattle.cv_print_back.proofs.files.Saying.{Makes, Run, Says, Word, a_note, behind, follow, forms_tell, made_of_less, says_less, turned}
 use Rattle.cv_print_back.proofs.files.Tales.{defined_by, definitions}
-use Rattle.cv_lists.specs.Options.{first_of}
+use Rattle.cv_syntax_trees.specs.lists.Options.{first_of}
 
 -- a variable with a first definition is among those that are defined
 

@@ -1,7 +1,7 @@
 -- A phrase of files is spelled in a script by the same signs, whichever words of scripts its names are.
 use Rattle.std.proofs.Common.{◌≡◌, ℕ, zero, suc, Bool, true, false, ◌&&◌, ◌||◌, List, [], ◌∷◌, ◌++◌, map, Some, None, inl, inr, refl, ap, ap₂, sym, ◌∙◌}
 use Rattle.std.proofs.lemmas.List.{length-map, map-append}
-use Rattle.cv_lists.proofs.Tests.{and_first, and_second}
+use Rattle.cv_syntax_trees.proofs.lists.Tests.{and_first, and_second}
 use Rattle.cv_syntax_trees.specs.Tree.{Tree}
 use Rattle.cv_parse_notation.specs.declared.script.ScriptWord.{ScriptWord}
 use Rattle.cv_parse_notation.specs.declared.sign.Sign.{Sign}

@@ -4,8 +4,8 @@ use Rattle.std.specs.Prelude.{◌==◌, if◌then◌else◌}
 use Rattle.std.specs.List.{list_any}
 use Rattle.std.proofs.lemmas.List.{drop_all, drop_more, reverse-append, take_more}
 use Rattle.std.proofs.lemmas.List.Folds.{list_any-append}
-use Rattle.cv_lists.specs.Options.{first_of}
-use Rattle.cv_directory_sorts.specs.declared.sort.Sort.TheVariants.{BelowParameter}
+use Rattle.cv_syntax_trees.specs.lists.Options.{first_of}
+use Rattle.cv_syntax_trees.specs.declared.sites.sort.Sort.TheVariants.{BelowParameter}
 use Rattle.cv_scope_rules.specs.declared.typing.precedence.Precedence.TheVariants.{First}
 use Rattle.cv_scope_rules.specs.typing.Signature.{Above}
 use Rattle.cv_scope_rules.specs.typing.Wants.{bound}

@@ -4,8 +4,8 @@ use Rattle.std.specs.Prelude.{◌==◌, option_map, slice_index_or}
 use Rattle.std.specs.List.{AllByRecursion}
 use Rattle.std.proofs.Math.Path.{fun_ext}
 use Rattle.std.proofs.lemmas.List.{get_or_past}
-use Rattle.cv_lists.proofs.Numbers.{below_or_not}
-use Rattle.cv_lists.proofs.Options.{IfSome_weaker}
+use Rattle.cv_syntax_trees.proofs.lists.Numbers.{below_or_not}
+use Rattle.cv_syntax_trees.proofs.lists.Options.{IfSome_weaker}
 use Rattle.cv_pool.specs.declared.node.NodeId.{NodeId}
 use Rattle.cv_pool.specs.KindTree.{KindTree, NoTree}
 use Rattle.cv_pool.specs.PoolView.{Grows, PoolView}
@@ -27,13 +27,13 @@ use Rattle.cv_directory.specs.declared.site.Site.{Site}
 use Rattle.cv_directory.specs.Definitions.{Definition, Entries, bound_definitions, definition_at, definitions_at, definitions_from, definitions_of, entries_of, first_in, large_in, replications_below}
 use Rattle.cv_directory.specs.Live.{IsLive}
 use Rattle.cv_directory.specs.Tables.{counts, definition_of, entries_in, entry_at, firsts, indices, others}
-use Rattle.cv_directory_sorts.specs.declared.sort.Sort.{Sort}
-use Rattle.cv_directory_sorts.specs.declared.sort.Sort.TheVariants.{BelowParameter, OfType}
+use Rattle.cv_syntax_trees.specs.declared.sites.sort.Sort.{Sort}
+use Rattle.cv_syntax_trees.specs.declared.sites.sort.Sort.TheVariants.{BelowParameter, OfType}
 use Rattle.cv_scope_rules.specs.Phrases.{IsWellFormed}
 use Rattle.cv_typing.specs.declared.arrays.Arrays.{Arrays}
 use Rattle.cv_typing.specs.Tables.{directory_in}
 use Rattle.cv_scope_rules.specs.typing.Signature.{OfGame}
-use Rattle.cv_directory_sorts.specs.Sites.{sites_of}
+use Rattle.cv_syntax_trees.specs.sites.Sites.{sites_of}
 use Rattle.cv_scene.specs.Scenes.{Scene}
 use Rattle.cv_scene_view.specs.Kept.{scene_of}
 use Rattle.cv_query_parts.specs.declared.pairs.walk.Pairing.{Pairing}

@@ -1,7 +1,7 @@
 -- The test of a pair, by the lists that are made for it.
 use Rattle.std.proofs.Common.{◌≡◌, ℕ, ◌+◌, ◌<◌, ◌^◌, Bool, true, false, ◌&&◌, List, [], ◌∷◌, ◌++◌, nat_lt, ltb-true, refl, sym, ap, ap₂, ◌∙◌, arith, map, Option, Some}
 use Rattle.std.specs.Prelude.{if◌then◌else◌}
-use Rattle.cv_lists.specs.Options.{first_of}
+use Rattle.cv_syntax_trees.specs.lists.Options.{first_of}
 use Rattle.cv_pool.specs.KindTree.{KindTree}
 use Rattle.cv_syntax_trees.specs.declared.head.Head.TheVariants as head
 use Rattle.cv_syntax_trees.specs.Tree.{Tree, Empty, Node, chain, size}

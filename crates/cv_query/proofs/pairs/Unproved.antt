@@ -1,7 +1,7 @@
 -- The pairs that were met, one by one: which is the first that isn't derived.
 use Rattle.std.proofs.Common.{◌≡◌, ℕ, ◌+◌, ◌<◌, Bool, true, false, List, length, drop, get_or, sym, ap, ap₂, ◌∙◌, Option, Some}
 use Rattle.std.proofs.lemmas.List.{drop_more}
-use Rattle.cv_lists.specs.Options.{first_of}
+use Rattle.cv_syntax_trees.specs.lists.Options.{first_of}
 use Rattle.cv_pool.specs.declared.node.NodeId.{NodeId}
 use Rattle.cv_pool.specs.KindTree.{KindTree}
 use Rattle.cv_syntax.specs.declared.work.Work.{Work}

@@ -1,16 +1,16 @@
 ghost use Rattle.std.specs.Prelude.{◌≡◌, ◌++◌, ◌<◌, ◌^◌, IfOk, OnOk, Some, length};
 ghost use Rattle.cv_syntax_trees.specs.Tree.{size};
 ghost use Rattle.cv_syntax.specs.PoolTrees.{tree_at};
-ghost use Rattle.cv_directory_sorts.specs.declared.sort.Sort.TheVariants.{BelowParameter};
+ghost use Rattle.cv_syntax_trees.specs.declared.sites.sort.Sort.TheVariants.{BelowParameter};
 ghost use Rattle.cv_scope_rules.specs.declared.typing.precedence.Precedence.TheVariants.{First};
 ghost use Rattle.cv_scope_rules.specs.typing.Wants.{bound};
 ghost use Rattle.cv_typing.specs.Tables.{above_of};
 ghost use Rattle.cv_scene.specs.Terms.{above_under, indices_above, replications_at};
 ghost use Rattle.cv_scene_view.specs.Kept.{scene_of};
 
-use cv_directory_sorts::Sort;
 use cv_scene_view::indices_at;
 use cv_syntax::{NodeId, Work};
+use cv_syntax_trees::sites::Sort;
 use std::alloc::{AllocError, Global};
 use std::collections::HashMap;
 

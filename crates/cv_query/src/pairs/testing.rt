@@ -1,5 +1,5 @@
 ghost use Rattle.std.specs.Prelude.{◌≡◌, All, IfOk, Some, length, ◌<◌};
-ghost use Rattle.cv_lists.specs.Options.{first_of};
+ghost use Rattle.cv_syntax_trees.specs.lists.Options.{first_of};
 ghost use Rattle.cv_pool.specs.Nodes.{ChildBelow};
 ghost use Rattle.cv_syntax.specs.PoolTrees.{tree_at};
 ghost use Rattle.cv_scene_view.specs.Kept.{scene_of};

@@ -3,7 +3,7 @@ use Rattle.std.proofs.Common.{◌≡◌, ℕ, Bool, true, false, ◌&&◌, ◌||
 use Rattle.std.proofs.lemmas.List.{append-nil}
 use Rattle.std.specs.HashSet.{Updates}
 use Rattle.std.specs.List.{list_any}
-use Rattle.cv_lists.proofs.Tests.{or_false}
+use Rattle.cv_syntax_trees.proofs.lists.Tests.{or_false}
 use Rattle.cv_syntax_trees.specs.declared.head.Head.{Head}
 use Rattle.cv_syntax_trees.specs.declared.head.Head.TheVariants.{Binder, Leaf, Read}
 use Rattle.cv_syntax.specs.NameSets.{NameSet, is_in, is_one_of}

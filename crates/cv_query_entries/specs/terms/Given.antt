@@ -1,6 +1,6 @@
 -- A tree with terms for names, by what is given for each name: what is put is not looked into.
 use Rattle.std.specs.Prelude.{ℕ, List, map, Option, None}
-use Rattle.cv_lists.specs.Options.{first_of}
+use Rattle.cv_syntax_trees.specs.lists.Options.{first_of}
 use Rattle.cv_syntax_trees.specs.declared.head.Head.{Head}
 use Rattle.cv_syntax_trees.specs.declared.head.Head.TheVariants.{Leaf}
 use Rattle.cv_syntax_trees.specs.Tree.{Tree, Empty, Node}

@@ -21,8 +21,8 @@ use Rattle.cv_meaning_chances.specs.Tests.{some_equal}
 use Rattle.cv_meaning_chances.proofs.FractionLaws.{at_most_trans, plus_kept}
 use Rattle.cv_meaning_chances.proofs.Unions.{chance_any}
 use Rattle.cv_meaning_chances.proofs.Within.{count_at_most}
-use Rattle.cv_directory_sorts.specs.declared.sort.Sort.TheVariants.{OfType}
-use Rattle.cv_directory_sorts.specs.Sites.{Variable, first_site}
+use Rattle.cv_syntax_trees.specs.declared.sites.sort.Sort.TheVariants.{OfType}
+use Rattle.cv_syntax_trees.specs.sites.Sites.{Variable, first_site}
 use Rattle.cv_scope_rules.specs.Phrases.{Inputs, is_phrase}
 use Rattle.cv_scope_runs.proofs.Standing.{root}
 use Rattle.cv_scene.specs.Scenes.{Scene, has_news_alone}

@@ -4,7 +4,7 @@ use Rattle.std.specs.Prelude.{Contains, slice_get}
 use Rattle.std.proofs.lemmas.Bool.{and_parts, both_ways}
 use Rattle.std.proofs.lemmas.List.Elements.{Contains-append_left, Contains-append_right}
 use Rattle.std.specs.List.{AllByRecursion}
-use Rattle.cv_lists.proofs.Options.{AllByRecursion_slice_get, none_some, some_injective}
+use Rattle.cv_syntax_trees.proofs.lists.Options.{AllByRecursion_slice_get, none_some, some_injective}
 use Rattle.cv_syntax_trees.specs.declared.head.Head.TheVariants.{AtEntry, Event, NeverEntry, WithEntry}
 use Rattle.cv_syntax_trees.specs.Tree.{Tree, Node, size, subtree}
 use Rattle.cv_syntax.specs.Layouts.{IsSyntax}

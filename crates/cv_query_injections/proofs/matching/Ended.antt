@@ -46,8 +46,8 @@ use Rattle.cv_query_laws.specs.visits.Visited.{HasVisitAbove, IsFront}
 use Rattle.cv_query_laws.proofs.correspondences.Behind.{EventNode, event_node}
 use Rattle.cv_query_laws.proofs.routes.Executed.{event_above, fine, grows_at, holds_at}
 use Rattle.cv_query_laws.proofs.visits.OneBody.{front_take}
-use Rattle.cv_lists.proofs.Options.{none_some, some_injective}
-use Rattle.cv_lists.proofs.Tests.{equals_refl}
+use Rattle.cv_syntax_trees.proofs.lists.Options.{none_some, some_injective}
+use Rattle.cv_syntax_trees.proofs.lists.Tests.{equals_refl}
 use Rattle.cv_query_secrets.proofs.copies.Values.{cell_fine}
 use Rattle.cv_query_injections.proofs.places.Reads.{IfCell, IsRead, derivation_reads}
 

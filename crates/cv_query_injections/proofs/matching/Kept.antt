@@ -14,7 +14,7 @@ use Rattle.cv_meaning.specs.Serving.{Visit}
 use Rattle.cv_meaning.specs.Correspondences.{Correspondence, broken, correspondence_of}
 use Rattle.cv_meaning_laws.specs.adequacy.Broken.{AllMet, HasMatching, IsKept, StandsAt}
 use Rattle.cv_meaning_chances.specs.Tests.{some_equal}
-use Rattle.cv_directory_sorts.specs.Sites.{Variable, first_site}
+use Rattle.cv_syntax_trees.specs.sites.Sites.{Variable, first_site}
 use Rattle.cv_scope_rules.specs.Behind.{sites_of}
 use Rattle.cv_typing_runs.proofs.Games.{typed}
 use Rattle.cv_derive_facts.specs.Definitions.{IsBehind}

@@ -3,7 +3,7 @@ use Rattle.std.proofs.Common.{◌≡◌, ◌≢◌, ℕ, ◌+◌, ◌<◌, ◌�
 use Rattle.std.proofs.lemmas.List.{length-map}
 use Rattle.std.proofs.lemmas.Bool.{and_parts, both_ways}
 use Rattle.std.specs.List.{AllByRecursion, list_any}
-use Rattle.cv_lists.proofs.Options.{none_from_not_some}
+use Rattle.cv_syntax_trees.proofs.lists.Options.{none_from_not_some}
 use Rattle.cv_syntax_trees.specs.declared.head.Head.{Head}
 use Rattle.cv_syntax_trees.specs.declared.head.Head.TheVariants.{Event, Find, If, Pair}
 use Rattle.cv_syntax_trees.specs.Head.{weight}

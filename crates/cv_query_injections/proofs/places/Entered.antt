@@ -11,7 +11,7 @@ use Rattle.cv_meaning_laws.specs.adequacy.Broken.{StandsAt}
 use Rattle.cv_scene.specs.Scenes.{Scene}
 use Rattle.cv_scene.specs.Terms.{replications_at}
 use Rattle.cv_scene.specs.Pairs.{of_second}
-use Rattle.cv_lists.proofs.Options.{none_some, some_injective}
+use Rattle.cv_syntax_trees.proofs.lists.Options.{none_some, some_injective}
 use Rattle.cv_query_certificates.specs.Accepted.{AreEntries, IsEntry}
 use Rattle.cv_query_certificates.specs.EventNodes.{event_places, is_event_head, place_in}
 use Rattle.cv_query_certificates.specs.Forms.{is_number}

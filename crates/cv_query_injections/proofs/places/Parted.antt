@@ -12,7 +12,7 @@ use Rattle.cv_path.proofs.Bounds.{lies_somewhere}
 use Rattle.cv_path.proofs.Going.{subtree_empty, subtree_here, subtree_within, subtree_behind}
 use Rattle.cv_scope_rules.specs.Phrases.{Phrase, Body, Branches, Else, Inputs, Nil, Term, Terms, Then, is_phrase}
 use Rattle.cv_steps.proofs.Flat.{AreStill, IfStill, is_of_terms, open_phrase, rows_still}
-use Rattle.cv_lists.proofs.Options.{none_some, some_injective}
+use Rattle.cv_syntax_trees.proofs.lists.Options.{none_some, some_injective}
 use Rattle.cv_query_certificates.specs.Pairs.{between, of_first, of_second_child, parting}
 use Rattle.cv_query_laws.specs.visits.Bodies.{LiesInBody, LiesInElement}
 use Rattle.cv_query_laws.proofs.correspondences.Behind.{arguments_phrase}

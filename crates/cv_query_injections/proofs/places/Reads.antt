@@ -19,7 +19,7 @@ use Rattle.cv_path.specs.declared.place.Lies.{Lies}
 use Rattle.cv_path.specs.declared.place.Lies.TheVariants.{Here, Within, Behind}
 use Rattle.cv_path.specs.Places.{LiesAt}
 use Rattle.cv_path.proofs.Bounds.{lies_somewhere}
-use Rattle.cv_directory_sorts.specs.Sites.{first_of}
+use Rattle.cv_syntax_trees.specs.sites.Sites.{first_of}
 use Rattle.cv_scope_rules.specs.declared.position.Position.{Position}
 use Rattle.cv_scope_rules.specs.declared.position.Position.TheVariants.{Anywhere}
 use Rattle.cv_scope_rules.specs.Above.{first_standing, second_standing, standing_at, stands_at}
@@ -51,8 +51,8 @@ use Rattle.cv_derive_laws.specs.stores.Truth.{AreOver, IsOver, IsTrue}
 use Rattle.cv_derive_laws.proofs.Substitution.{names_of}
 use Rattle.cv_derive_laws.proofs.Truths.{nought_one}
 use Rattle.cv_derive_laws.proofs.reached.Reached.{index_names}
-use Rattle.cv_lists.proofs.Options.{none_some, some_injective, some_none}
-use Rattle.cv_lists.proofs.Tests.{or_cases}
+use Rattle.cv_syntax_trees.proofs.lists.Options.{none_some, some_injective, some_none}
+use Rattle.cv_syntax_trees.proofs.lists.Tests.{or_cases}
 use Rattle.cv_query_laws.proofs.correspondences.Sites.{only_site_covers}
 
 -- what is true of what is known at a place is true of what stands there

@@ -1,7 +1,7 @@
 -- What an accepted certificate costs has a value: the variables that it takes to differ are of large types, none of which is empty.
 use Rattle.std.proofs.Common.{◌≡◌, ℕ, ◌<◌, Bool, true, false, cond, ◌&&◌, not, List, [], ◌∷◌, ◌++◌, map, Option, Some, None, refl, sym, ap, subst, ◌∙◌, arith, eq-eqb, mul-pos}
 use Rattle.std.proofs.lemmas.Bool.{both_ways}
-use Rattle.cv_lists.proofs.Options.{first_of_none, some_none}
+use Rattle.cv_syntax_trees.proofs.lists.Options.{first_of_none, some_none}
 use Rattle.cv_syntax_trees.specs.declared.class.Class.TheVariants as class
 use Rattle.cv_syntax_trees.specs.declared.head.Head.{Head}
 use Rattle.cv_syntax_trees.specs.declared.head.Head.TheVariants.{EventsCertificate, New, Query, Secret, SecretCertificate, SecretOnce}
@@ -11,7 +11,7 @@ use Rattle.cv_meaning.specs.Correspondences.{Correspondence, correspondence_of}
 use Rattle.cv_meaning.specs.Interpretation.{Interpretation}
 use Rattle.cv_meaning.specs.Satisfies.{Satisfies}
 use Rattle.cv_meaning_chances.specs.Fractions.{HasTapes, sum_of}
-use Rattle.cv_directory_sorts.specs.Sites.{Variable, first_of, first_site}
+use Rattle.cv_syntax_trees.specs.sites.Sites.{Variable, first_of, first_site}
 use Rattle.cv_scope_rules.specs.Context.{Context}
 use Rattle.cv_scope_rules.specs.Made.{made_by}
 use Rattle.cv_scope_rules.specs.Phrases.{Inputs, Phrase, is_phrase}

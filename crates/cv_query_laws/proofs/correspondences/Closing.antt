@@ -43,7 +43,7 @@ use Rattle.cv_query_laws.proofs.correspondences.Behind.{IsAmong, place_among}
 use Rattle.cv_query_laws.proofs.correspondences.Happening.{run_happens}
 use Rattle.cv_query_laws.proofs.correspondences.Meeting.{entry_met}
 use Rattle.cv_query_laws.proofs.correspondences.Naming.{closed_named}
-use Rattle.cv_lists.proofs.Each.{AllByRecursion_append}
+use Rattle.cv_syntax_trees.proofs.lists.Each.{AllByRecursion_append}
 
 all_at : {A : Type 0} (P : A → Type 0) (xs : List A) (n : ℕ) (x : A) → AllByRecursion P xs → slice_get xs n ≡ Some x → P x
 all_at P [] n x a e = absurd (none e)

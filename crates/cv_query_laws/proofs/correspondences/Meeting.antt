@@ -19,10 +19,10 @@ use Rattle.cv_meaning_laws.specs.adequacy.Broken.{AreValues, Holds as IsHeld, Is
 use Rattle.cv_meaning_laws.specs.adequacy.Typed as meaning
 use Rattle.cv_meaning_laws.specs.adequacy.Typed.{IsTypedStore}
 use Rattle.cv_meaning_laws.proofs.adequacy.Sorted.{typed_value}
-use Rattle.cv_directory_sorts.specs.declared.sort.Sort.{Sort}
-use Rattle.cv_directory_sorts.specs.declared.sort.Sort.TheVariants.{BelowParameter, OfType}
+use Rattle.cv_syntax_trees.specs.declared.sites.sort.Sort.{Sort}
+use Rattle.cv_syntax_trees.specs.declared.sites.sort.Sort.TheVariants.{BelowParameter, OfType}
 use Rattle.cv_scope_rules.specs.typing.Signature.{sort_of}
-use Rattle.cv_directory_sorts.specs.Sorts.{same_sort}
+use Rattle.cv_syntax_trees.specs.sites.Sorts.{same_sort}
 use Rattle.cv_typing_runs.specs.Games.{context_of, sort_of_meaning}
 use Rattle.cv_typing_runs.proofs.Models.{is_model}
 use Rattle.cv_typing_runs.proofs.Terms.{nil_empty}

@@ -3,7 +3,7 @@ use Rattle.std.proofs.Common.{◌≡◌, ℕ, ◌+◌, Bool, true, false, cond, 
 use Rattle.std.specs.Prelude.{filter}
 use Rattle.std.proofs.lemmas.Bool.{and_from, both_ways, not-true}
 use Rattle.std.specs.List.{AllByRecursion, list_any}
-use Rattle.cv_lists.proofs.Each.{AllByRecursion_append, AllByRecursion_flat_map}
+use Rattle.cv_syntax_trees.proofs.lists.Each.{AllByRecursion_append, AllByRecursion_flat_map}
 use Rattle.cv_syntax_trees.specs.declared.head.Head.{Head}
 use Rattle.cv_syntax_trees.specs.declared.head.Head.TheVariants.{And, Apply, Binder, Cons, Eq, Leaf, No, Not, Occurs, OccursOnce, Or, Query, Read, SomeOf, Yes}
 use Rattle.cv_syntax_trees.specs.Declarations.{Declaration}

@@ -49,7 +49,7 @@ use Rattle.cv_scene.specs.Scenes.{Scene, or_empty}
 use Rattle.cv_query.specs.kinds.Closed.{IsClosedQuery}
 use Rattle.cv_query_certificates.specs.Accepted.{IsEntry, Proves}
 use Rattle.cv_query_certificates.specs.EventNodes.{arguments_at}
-use Rattle.cv_lists.proofs.Options.{AllByRecursion_slice_get, none_some}
+use Rattle.cv_syntax_trees.proofs.lists.Options.{AllByRecursion_slice_get, none_some}
 use Rattle.cv_query_laws.specs.correspondences.Happenings.{happening, happening_at}
 use Rattle.cv_query_laws.specs.correspondences.Premises.{is_correspondence}
 use Rattle.cv_query_laws.specs.routes.Ends.{AreMetBy, IsExecuted, IsMetBy}

@@ -24,8 +24,8 @@ use Rattle.cv_meaning.specs.Experiments.{coins_on, visits_of_run}
 use Rattle.cv_meaning_laws.specs.adequacy.Broken.{StandsAt}
 use Rattle.cv_meaning_laws.proofs.Lists.{each_flat_map}
 use Rattle.cv_meaning_laws.proofs.Moves.{TakenEach, admitted_each}
-use Rattle.cv_lists.proofs.Each.{AllByRecursion_append, AllByRecursion_left, AllByRecursion_right}
-use Rattle.cv_lists.proofs.Options.{AllByRecursion_slice_get, none_some, some_injective}
+use Rattle.cv_syntax_trees.proofs.lists.Each.{AllByRecursion_append, AllByRecursion_left, AllByRecursion_right}
+use Rattle.cv_syntax_trees.proofs.lists.Options.{AllByRecursion_slice_get, none_some, some_injective}
 use Rattle.cv_query_laws.specs.visits.Bodies.{LiesInBody, LiesInElement, body_at, body_of_turn, body_taken}
 use Rattle.cv_query_laws.specs.visits.Visited.{IsFront, HasVisitAbove, head_is_visited}
 use Rattle.cv_query_laws.proofs.visits.Positions.{all_stand}

@@ -15,7 +15,7 @@ use Rattle.cv_meaning_laws.specs.adequacy.Broken.{StandsAt}
 use Rattle.cv_scope_rules.specs.Made.{made_at}
 use Rattle.cv_scope_rules.specs.Sites.{Variable}
 use Rattle.cv_scope_runs.proofs.FreshRuns.{bound_made, put_made}
-use Rattle.cv_lists.proofs.Each.{AllByRecursion_left, AllByRecursion_right}
+use Rattle.cv_syntax_trees.proofs.lists.Each.{AllByRecursion_left, AllByRecursion_right}
 use Rattle.cv_query_laws.proofs.visits.Positions.{all_stand}
 
 module _ (g : Setting) (t : Tape) (Seen : Visit → Type 0) where

@@ -22,7 +22,7 @@ use Rattle.cv_scope_rules.specs.Phrases.{HasConstantsOf, IsWellFormedContext}
 use Rattle.cv_scope_runs.specs.Promises.{AreIndicesOf, PlaceHolds}
 use Rattle.cv_scope_runs.proofs.FactsRuns.{all_places_hold}
 use Rattle.cv_scope_runs.proofs.PathRuns.{grows_same}
-use Rattle.cv_lists.proofs.Options.{AllByRecursion_slice_get, some_injective}
+use Rattle.cv_syntax_trees.proofs.lists.Options.{AllByRecursion_slice_get, some_injective}
 use Rattle.cv_query_laws.specs.visits.Bodies.{LiesInBody, body_taken}
 use Rattle.cv_query_laws.specs.visits.Visited.{IsFront, HasVisitAbove, head_is_visited}
 use Rattle.cv_query_laws.proofs.visits.Above.{body_bounds, was_visited}

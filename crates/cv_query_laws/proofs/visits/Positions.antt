@@ -17,8 +17,8 @@ use Rattle.cv_meaning_laws.specs.adequacy.Broken.{StandsAt}
 use Rattle.cv_meaning_runs.specs.Spots.{Spot, has_place, same_spot, spots_of_inputs, spots_of_visit, spots_of_visits}
 use Rattle.cv_meaning_runs.proofs.Lists.{distinct_left, distinct_right}
 use Rattle.cv_meaning_runs.proofs.Spots.{spots_distinct}
-use Rattle.cv_lists.proofs.Each.{AllByRecursion_append, AllByRecursion_left, AllByRecursion_right, AllByRecursion_weaker}
-use Rattle.cv_lists.proofs.Options.{none_some, some_injective}
+use Rattle.cv_syntax_trees.proofs.lists.Each.{AllByRecursion_append, AllByRecursion_left, AllByRecursion_right, AllByRecursion_weaker}
+use Rattle.cv_syntax_trees.proofs.lists.Options.{none_some, some_injective}
 use Rattle.cv_query_laws.specs.correspondences.Happenings.{happening, happening_at, happenings}
 use Rattle.cv_query_laws.specs.visits.Events.{event_visits, is_event}
 use Rattle.cv_query_laws.proofs.correspondences.Happening.{run_happens}

@@ -5,7 +5,7 @@ ghost use Rattle.cv_pool.specs.Nodes.{ChildBelow};
 ghost use Rattle.cv_syntax.specs.PoolTrees.{tree_at};
 ghost use Rattle.cv_query_certificates.specs.PairParts.{first_wrong_pair, least};
 ghost use Rattle.cv_query_certificates.specs.Pairs.{needed_pairs};
-ghost use Rattle.cv_lists.specs.Options.{first_of};
+ghost use Rattle.cv_syntax_trees.specs.lists.Options.{first_of};
 ghost use Rattle.cv_query_parts.specs.Countable.{AreCountableParts};
 ghost use Rattle.cv_query_parts.specs.Said.{IsRouteBelow};
 ghost use Rattle.cv_query_parts.specs.Views.{IsAskedBelow, asked_of};

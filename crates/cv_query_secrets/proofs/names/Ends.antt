@@ -7,8 +7,8 @@ use Rattle.cv_syntax_trees.specs.declared.head.Head.TheVariants.{Binder, Branch,
 use Rattle.cv_syntax_trees.specs.Declarations.{Declaration, Named}
 use Rattle.cv_syntax_trees.specs.Tree.{Tree, Empty, Node, second}
 use Rattle.cv_meaning.specs.Interpretation.{is_constant_of}
-use Rattle.cv_directory_sorts.specs.declared.sort.Sort.{Sort}
-use Rattle.cv_directory_sorts.specs.Sites.{at_parameters, bound_sort, first_of, first_site, is_untyped_here, is_untyped_in, parameters_below, site_here}
+use Rattle.cv_syntax_trees.specs.declared.sites.sort.Sort.{Sort}
+use Rattle.cv_syntax_trees.specs.sites.Sites.{at_parameters, bound_sort, first_of, first_site, is_untyped_here, is_untyped_in, parameters_below, site_here}
 use Rattle.cv_scope_rules.specs.Context.{Context, known_at}
 use Rattle.cv_scope_rules.specs.Above.{stands_at}
 use Rattle.cv_scope_rules.specs.Rules.{is_index}

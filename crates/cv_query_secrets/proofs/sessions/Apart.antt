@@ -3,7 +3,7 @@ use Rattle.std.proofs.Common.{◌≡◌, ℕ, zero, suc, ◌==◌, Bool, true, f
 use Rattle.std.proofs.lemmas.Bool.{and_parts, both_ways, or_cases}
 use Rattle.std.specs.Prelude.{slice_get}
 use Rattle.std.specs.List.{AllByRecursion}
-use Rattle.cv_lists.proofs.Options.{AllByRecursion_slice_get, none_from_not_some, none_some, some_injective}
+use Rattle.cv_syntax_trees.proofs.lists.Options.{AllByRecursion_slice_get, none_from_not_some, none_some, some_injective}
 use Rattle.cv_syntax.specs.Layouts.{IsSyntax}
 use Rattle.cv_syntax_trees.specs.declared.head.Head.TheVariants.{Let}
 use Rattle.cv_syntax_trees.specs.Tree.{Tree, Node, chain}

@@ -40,7 +40,7 @@ use Rattle.cv_query_secrets.proofs.unread.CopyChances.{each_of_flat, reads_among
 use Rattle.cv_query_secrets.proofs.unread.Copies.{HaveOneSort, copying_kind, names, names_unread, quiet_copies}
 use Rattle.cv_query_secrets.proofs.unread.CopySizes.{lets_typed, never_copies, odd_for_copies, same_sizes}
 use Rattle.cv_query_secrets.proofs.unread.Swaps.{one_size}
-use Rattle.cv_lists.proofs.Each.{AllByRecursion_right}
+use Rattle.cv_syntax_trees.proofs.lists.Each.{AllByRecursion_right}
 use Rattle.cv_query_secrets.proofs.sessions.Exchange.{AreOneToOne, Pair, exchanged, exchanged_agrees, exchanged_twice, exchanged_within}
 use Rattle.cv_query_secrets.proofs.sessions.Links.{pairs_of}
 use Rattle.cv_query_secrets.proofs.sessions.Same.{pairs_same, visits_open}

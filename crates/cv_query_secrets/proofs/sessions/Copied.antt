@@ -2,7 +2,7 @@
 use Rattle.std.proofs.Common.{◌≡◌, ℕ, Bool, true, false, ◌&&◌, List, [], ◌∷◌, ◌++◌, ◌⊎◌, inl, inr, Option, Some, None, refl, sym, ap, subst, ◌∙◌}
 use Rattle.std.proofs.lemmas.Bool.{and_parts, both_ways}
 use Rattle.std.specs.List.{AllByRecursion}
-use Rattle.cv_lists.proofs.Options.{none_some}
+use Rattle.cv_syntax_trees.proofs.lists.Options.{none_some}
 use Rattle.cv_syntax_trees.specs.declared.head.Head.TheVariants.{Apply, And, Cons, Eq, Leaf, Let, No, Not, Or, Read, Yes}
 use Rattle.cv_syntax_trees.specs.Declarations.{Declaration}
 use Rattle.cv_syntax_trees.specs.Tree.{Tree, Empty, Node, first_place, second_place}

@@ -2,7 +2,7 @@
 use Rattle.std.proofs.Common.{◌≡◌, ℕ, ◌&&◌, Bool, true, false, cond, List, [], ◌∷◌, ◌⊎◌, inl, inr, Option, Some, None, refl, sym, ap, ap₂, subst, ◌∙◌, eqb-true}
 use Rattle.std.proofs.Math.Path.{fun_ext}
 use Rattle.std.proofs.lemmas.Bool.{both_ways, and_parts}
-use Rattle.cv_lists.proofs.Options.{none_some, some_injective}
+use Rattle.cv_syntax_trees.proofs.lists.Options.{none_some, some_injective}
 use Rattle.cv_meaning.specs.Tapes.{Cell, New_at, Test_at, Tape, cells_of, same_cell, same_tuple}
 use Rattle.cv_meaning_laws.proofs.Listed.{Has}
 use Rattle.cv_meaning_laws.proofs.Counts.{same_cell_exact, same_cell_refl, same_tuple_exact, same_tuple_refl}

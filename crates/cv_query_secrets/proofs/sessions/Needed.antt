@@ -1,7 +1,7 @@
 -- Of each two copies of one value a certificate has a pair, with a derivation.
 use Rattle.std.proofs.Common.{◌≡◌, ℕ, ◌==◌, Bool, true, false, cond, List, [], ◌∷◌, ◌++◌, flat_map, ◌⊎◌, inl, inr, Option, Some, None, refl, sym, ap, subst, ◌∙◌, eq-eqb}
 use Rattle.std.specs.List.{AllByRecursion}
-use Rattle.cv_lists.proofs.Options.{none_some, some_injective}
+use Rattle.cv_syntax_trees.proofs.lists.Options.{none_some, some_injective}
 use Rattle.cv_syntax_trees.specs.declared.head.Head.TheVariants.{Leaf, Let, Read, SecretPair}
 use Rattle.cv_syntax_trees.specs.Tree.{Tree, Empty, Node, first_place, second_place}
 use Rattle.cv_meaning.specs.Interpretation.{Setting}

@@ -2,8 +2,8 @@
 use Rattle.std.proofs.Common.{◌≡◌, ℕ, ◌==◌, ◌&&◌, Bool, true, false, cond, not, List, [], ◌∷◌, ◌++◌, Option, Some, None, refl, sym, ap, ap₂, subst, ◌∙◌, eqb-true}
 use Rattle.std.proofs.lemmas.Bool.{both_ways, and_parts}
 use Rattle.std.specs.List.{AllByRecursion, list_any}
-use Rattle.cv_lists.specs.Options.{first_of}
-use Rattle.cv_lists.proofs.Options.{first_of_none, some_none}
+use Rattle.cv_syntax_trees.specs.lists.Options.{first_of}
+use Rattle.cv_syntax_trees.proofs.lists.Options.{first_of_none, some_none}
 use Rattle.cv_syntax_trees.specs.declared.head.Head.{Head}
 use Rattle.cv_syntax_trees.specs.declared.head.Head.TheVariants.{Leaf, Let, Read}
 use Rattle.cv_syntax_trees.specs.Tree.{Tree, Empty, Node, first, first_place, second_place}

@@ -9,7 +9,7 @@ use Rattle.cv_scope_rules.specs.Phrases.{Phrase, Inputs, Body, Then, Else, Branc
 use Rattle.cv_scope_rules.specs.Sites.{Variable}
 use Rattle.cv_query_certificates.specs.Secrets.{first_definition_but}
 use Rattle.cv_costs.proofs.quiet.Shapes.{defined_parts, left_false}
-use Rattle.cv_lists.proofs.Tests.{differ_comm}
+use Rattle.cv_syntax_trees.proofs.lists.Tests.{differ_comm}
 
 -- no node has such a head
 unfoldable pub none_odd : (Head → Bool) → Tree → Bool

@@ -53,7 +53,7 @@ use Rattle.cv_query_secrets.proofs.unread.Told.{first_in_run, first_told, one_fi
 use Rattle.cv_meaning_runs.specs.Replacement.{Process}
 use Rattle.cv_meaning_runs.proofs.Replacement.{agree_refl}
 use Rattle.cv_steps.proofs.Testable.{testable, local}
-use Rattle.cv_lists.proofs.Each.{AllByRecursion_left, AllByRecursion_right, AllByRecursion_trivial}
+use Rattle.cv_syntax_trees.proofs.lists.Each.{AllByRecursion_left, AllByRecursion_right, AllByRecursion_trivial}
 
 -- games in the grammar can be tested
 

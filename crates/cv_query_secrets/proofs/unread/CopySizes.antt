@@ -7,7 +7,7 @@ use Rattle.cv_syntax_trees.specs.declared.head.Head.{Head}
 use Rattle.cv_syntax_trees.specs.declared.head.Head.TheVariants.{New, Let, Binder}
 use Rattle.cv_syntax_trees.specs.Declarations.{Declaration}
 use Rattle.cv_syntax_trees.specs.Tree.{Tree, Empty, Node}
-use Rattle.cv_lists.specs.Options.{first_of}
+use Rattle.cv_syntax_trees.specs.lists.Options.{first_of}
 use Rattle.cv_meaning.specs.Tapes.{Cell, New_at, Test_at, is_in, same_tuple}
 use Rattle.cv_meaning.specs.Interpretation.{Interpretation, Setting, setting_of}
 use Rattle.cv_meaning.specs.Runs.{Random, Adversary}
@@ -15,9 +15,9 @@ use Rattle.cv_meaning.specs.Cells.{tuples_below, bounds_under, at_each_copy, cel
 use Rattle.cv_meaning_laws.specs.adequacy.Typed as meaning
 use Rattle.cv_meaning_laws.specs.adequacy.Typed.{Context, HasTypedRestrictions, size_of}
 use Rattle.cv_meaning_chances.specs.unread.Sizes.{size_in}
-use Rattle.cv_directory_sorts.specs.Sites.{Variable, first_site, sites_of}
-use Rattle.cv_directory_sorts.specs.Sorts.{differs_from}
-use Rattle.cv_directory_sorts.specs.declared.sort.Sort.TheVariants.{OfType}
+use Rattle.cv_syntax_trees.specs.sites.Sites.{Variable, first_site, sites_of}
+use Rattle.cv_syntax_trees.specs.sites.Sorts.{differs_from}
+use Rattle.cv_syntax_trees.specs.declared.sites.sort.Sort.TheVariants.{OfType}
 use Rattle.cv_scope_rules.specs.Made.{made_by}
 use Rattle.cv_scope_rules.specs.Sites as site
 use Rattle.cv_scope_rules.specs.typing.Signature.{Above, OfGame, Signature, variable_sort}
@@ -33,9 +33,8 @@ use Rattle.cv_query_secrets.proofs.unread.Places.{sized_is_in}
 use Rattle.cv_costs.proofs.quiet.Shapes.{left_false}
 use Rattle.cv_query_secrets.proofs.unread.Sizes.{Give, cells_size, draws_apart, no_coin, none_in_copies, parts_size, tests_apart}
 use Rattle.cv_query_secrets.proofs.unread.Swaps.{one_size}
-use Rattle.cv_lists.proofs.Tests.{differ_comm}
-use Rattle.cv_steps.proofs.CellSizes.{size_append}
-use Rattle.cv_meaning_chances.proofs.unread.CellSizes.{coins_apart}
+use Rattle.cv_syntax_trees.proofs.lists.Tests.{differ_comm}
+use Rattle.cv_meaning_chances.proofs.unread.CellSizes.{size_append, coins_apart}
 
 -- each `let` is of the type of its variable
 

@@ -22,8 +22,8 @@ use Rattle.cv_costs.specs.quiet.Quiet.{IsQuiet, only}
 use Rattle.cv_costs.specs.quiet.Twins.{Link}
 use Rattle.cv_costs.proofs.quiet.Served.{But, One, guesses}
 use Rattle.cv_costs.proofs.quiet.Shapes.{one_of}
-use Rattle.cv_lists.proofs.Tests.{or_false}
-use Rattle.cv_lists.proofs.Each.{AllByRecursion_trivial}
+use Rattle.cv_syntax_trees.proofs.lists.Tests.{or_false}
+use Rattle.cv_syntax_trees.proofs.lists.Each.{AllByRecursion_trivial}
 
 module _ (g : Setting) (one : Bool) (x : ℕ) (t : Tape) where
   -- where the first run has assigned the variable, the second has the test's value

@@ -5,7 +5,7 @@ use Rattle.cv_syntax_trees.specs.Declarations.{Declaration}
 use Rattle.cv_syntax_trees.specs.declared.head.Head.{Head}
 use Rattle.cv_syntax_trees.specs.declared.head.Head.TheVariants.{New, Let, Binder}
 use Rattle.cv_syntax_trees.specs.Tree.{Tree, Empty, Node}
-use Rattle.cv_lists.specs.Options.{first_of}
+use Rattle.cv_syntax_trees.specs.lists.Options.{first_of}
 use Rattle.cv_meaning.specs.Tapes.{Cell, New_at, Find_at, Test_at, Key_at, Made_at, Picked_at, Coin, same_cell, same_tuple}
 use Rattle.cv_meaning.specs.Interpretation.{Interpretation, Setting, setting_of}
 use Rattle.cv_meaning.specs.Runs.{Random, Adversary}
@@ -13,7 +13,7 @@ use Rattle.cv_meaning.specs.Cells.{tuples_below, bounds_under, at_each_copy, cel
 use Rattle.cv_meaning_laws.proofs.Counts.{same_cell_refl, same_cell_exact}
 use Rattle.cv_meaning_chances.specs.Tests.{IsOneToOne, renamed}
 use Rattle.cv_meaning_chances.specs.unread.Sizes.{size_in}
-use Rattle.cv_meaning_chances.proofs.unread.CellSizes.{size_once, size_each as none_listed, coins_apart}
+use Rattle.cv_meaning_chances.proofs.unread.CellSizes.{size_once, size_each as none_listed, coins_apart, first_none, size_append}
 use Rattle.cv_scope_rules.specs.Made.{made_by}
 use Rattle.cv_scope_rules.specs.Phrases.{Inputs, is_phrase}
 use Rattle.cv_scope_rules.specs.Sites.{Variable}
@@ -21,8 +21,7 @@ use Rattle.cv_query_certificates.specs.Secrets.{first_definition_but, is_choice}
 use Rattle.cv_query_secrets.specs.unread.Exchanged.{exchanged}
 use Rattle.cv_query_secrets.proofs.unread.Alone.{AreOdd, game_has_none, none_odd}
 use Rattle.cv_costs.proofs.quiet.Shapes.{left_false}
-use Rattle.cv_lists.proofs.Tests.{differ_comm}
-use Rattle.cv_steps.proofs.CellSizes.{first_none, size_append}
+use Rattle.cv_syntax_trees.proofs.lists.Tests.{differ_comm}
 
 -- lists
 

@@ -9,7 +9,7 @@ use Rattle.cv_syntax.specs.declared.make.Make.TheVariants as make
 use Rattle.cv_syntax.specs.limits.Limits.{nodes_of}
 use Rattle.cv_syntax.specs.Postorder.{joined, postorder}
 use Rattle.cv_syntax.proofs.listing.Lists.{overs_append}
-use Rattle.cv_lists.specs.Options.{first_of}
+use Rattle.cv_syntax_trees.specs.lists.Options.{first_of}
 use Rattle.cv_scene.specs.lines.Truths.{no}
 use Rattle.cv_scope_rules.specs.Phrases.{Phrase}
 use Rattle.cv_scene.specs.Scenes.{head_reads}

@@ -2,7 +2,7 @@
 use Rattle.std.proofs.Common.{◌≡◌, refl}
 use Rattle.std.specs.List.{AllByRecursion}
 use Rattle.cv_syntax_trees.specs.Tree.{size, subtree}
-use Rattle.cv_directory_sorts.specs.Sites.{bound_sort, first_site}
+use Rattle.cv_syntax_trees.specs.sites.Sites.{bound_sort, first_site}
 use Rattle.cv_path.specs.Copies.{copies_at, parameters}
 use Rattle.cv_scope_rules.specs.Made.{is_bound}
 use Rattle.cv_scene.specs.Scenes.{names}

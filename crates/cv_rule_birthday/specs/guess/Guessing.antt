@@ -5,7 +5,7 @@ use Rattle.cv_syntax_trees.specs.declared.head.Head.{Head}
 use Rattle.cv_syntax_trees.specs.declared.head.Head.TheVariants.{Eq}
 use Rattle.cv_syntax_trees.specs.Tree.{Tree, Empty, Node, first_place, second_place}
 use Rattle.cv_scene.specs.lines.Truths.{no}
-use Rattle.cv_directory_sorts.specs.Sites.{first_of}
+use Rattle.cv_syntax_trees.specs.sites.Sites.{first_of}
 use Rattle.cv_scope_rules.specs.Phrases.{Phrase, Nil, Inputs}
 use Rattle.cv_scene.specs.Scenes.{head_reads, part_at}
 use Rattle.cv_steps.specs.Rewriting.{has_term_at, is_term, parts_of}

@@ -4,9 +4,9 @@ use Rattle.std.specs.Prelude.{ℕ, false, not, List, [], map, Option, Some, None
 use Rattle.cv_syntax_trees.specs.Declarations.{Declaration}
 use Rattle.cv_syntax_trees.specs.Tree.{Tree}
 use Rattle.cv_bound.specs.declared.cost.Collision.{Collision}
-use Rattle.cv_directory_sorts.specs.Sites.{Variable, first_site}
-use Rattle.cv_directory_sorts.specs.declared.sort.Sort.{Sort}
-use Rattle.cv_directory_sorts.specs.declared.sort.Sort.TheVariants.{OfType}
+use Rattle.cv_syntax_trees.specs.sites.Sites.{Variable, first_site}
+use Rattle.cv_syntax_trees.specs.declared.sites.sort.Sort.{Sort}
+use Rattle.cv_syntax_trees.specs.declared.sites.sort.Sort.TheVariants.{OfType}
 use Rattle.cv_path.specs.Copies.{copies_at}
 use Rattle.cv_scene.specs.Scenes.{Scene, is_queried}
 use Rattle.cv_costs.specs.Collisions.{declared_parameters}

@@ -9,7 +9,7 @@ use Rattle.cv_syntax_trees.specs.Tree.{Tree, Node, first_place, second_place}
 use Rattle.cv_meaning.specs.Interpretation.{Setting}
 use Rattle.cv_meaning.specs.Memory.{Indices, Store, Happened, tuple}
 use Rattle.cv_meaning_laws.specs.adequacy.Typed.{AreBelowParameters}
-use Rattle.cv_directory_sorts.specs.Sites.{Variable as FirstSite, first_site}
+use Rattle.cv_syntax_trees.specs.sites.Sites.{Variable as FirstSite, first_site}
 use Rattle.cv_scope_rules.specs.Context.{Context, replications_below}
 use Rattle.cv_scope_rules.specs.Made.{made_by}
 use Rattle.cv_scope_rules.specs.Phrases.{Inputs, IsWellFormed, Phrase}
@@ -25,7 +25,7 @@ use Rattle.cv_scope_runs.proofs.Standing.{Stands, root, in_first, in_second}
 use Rattle.cv_typing_runs.specs.Games.{parameters_of}
 use Rattle.cv_typing_runs.proofs.Games.{first_nothing}
 use Rattle.cv_typing_runs.proofs.SameSites.{Agrees, sites_agree}
-use Rattle.cv_lists.proofs.Each.{AllByRecursion_left, AllByRecursion_right}
+use Rattle.cv_syntax_trees.proofs.lists.Each.{AllByRecursion_left, AllByRecursion_right}
 use Rattle.cv_scene.specs.Scenes.{has_news_alone, is_new_head}
 use Rattle.cv_costs.proofs.wording.Reworded.{news_first, news_second}
 

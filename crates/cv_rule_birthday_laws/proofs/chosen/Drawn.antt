@@ -21,7 +21,7 @@ use Rattle.cv_meaning_chances.specs.alignment.Points.{Point, turn_at}
 use Rattle.cv_scope_rules.specs.Made.{is_bound, made_by}
 use Rattle.cv_scope_rules.specs.Sites.{Variable}
 use Rattle.cv_scope_runs.proofs.Contexts.{put_other}
-use Rattle.cv_lists.proofs.Each.{AllByRecursion_append, AllByRecursion_weaker}
+use Rattle.cv_syntax_trees.proofs.lists.Each.{AllByRecursion_append, AllByRecursion_weaker}
 use Rattle.cv_scene.specs.Scenes.{has_news_alone, is_new_head}
 use Rattle.cv_costs.proofs.wording.Branches.{bound_other}
 use Rattle.cv_costs.proofs.wording.Reworded.{news_first, news_second}

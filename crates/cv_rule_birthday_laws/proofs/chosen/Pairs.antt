@@ -20,9 +20,9 @@ use Rattle.cv_meaning_laws.proofs.adequacy.Lists.{has_below}
 use Rattle.cv_meaning_chances.specs.Fractions.{birthday_bound}
 use Rattle.cv_meaning_chances.specs.Tests.{some_equal}
 use Rattle.cv_meaning_chances.proofs.Hits.{chance_some_equal}
-use Rattle.cv_directory_sorts.specs.declared.sort.Sort.{Sort}
-use Rattle.cv_directory_sorts.specs.declared.sort.Sort.TheVariants.{BelowParameter, OfType}
-use Rattle.cv_directory_sorts.specs.Sites.{Variable as FirstSite, at_parameters, bound_sort, first_of, first_site, parameters_below, site_here}
+use Rattle.cv_syntax_trees.specs.declared.sites.sort.Sort.{Sort}
+use Rattle.cv_syntax_trees.specs.declared.sites.sort.Sort.TheVariants.{BelowParameter, OfType}
+use Rattle.cv_syntax_trees.specs.sites.Sites.{Variable as FirstSite, at_parameters, bound_sort, first_of, first_site, parameters_below, site_here}
 use Rattle.cv_scope_rules.specs.Context.{Context}
 use Rattle.cv_scope_rules.specs.Made.{is_bound, made_by}
 use Rattle.cv_scope_rules.specs.Phrases.{Binders, Inputs, IsWellFormed, Nil, Phrase, is_phrase}

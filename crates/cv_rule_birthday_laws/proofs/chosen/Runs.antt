@@ -1,10 +1,10 @@
 -- Both together, at each visit of a run and at its end.
 use Rattle.std.proofs.Common.{◌≡◌, ℕ, true, List, [], Some}
 use Rattle.std.specs.List.{AllByRecursion}
-use Rattle.cv_lists.proofs.Each.{AllByRecursion_both}
+use Rattle.cv_syntax_trees.proofs.lists.Each.{AllByRecursion_both}
 use Rattle.cv_syntax_trees.specs.Declarations.{Declaration}
 use Rattle.cv_syntax_trees.specs.Tree.{Tree}
-use Rattle.cv_directory_sorts.specs.Sites.{Variable as FirstSite, first_site}
+use Rattle.cv_syntax_trees.specs.sites.Sites.{Variable as FirstSite, first_site}
 use Rattle.cv_meaning.specs.Experiments.{coins_on, run, visits_of_run}
 use Rattle.cv_meaning.specs.Interpretation.{Setting}
 use Rattle.cv_meaning.specs.Runs.{Adversary, Mode}

@@ -1,8 +1,8 @@
 -- The tuples below bounds are listed once.
 use Rattle.std.proofs.Common.{◌≡◌, ℕ, zero, suc, ◌<◌, ◌≤◌, ◌&&◌, ◌==◌, Bool, true, false, List, [], ◌∷◌, ◌++◌, flat_map, map, refl, sym, ap, subst, ◌∙◌, append_assoc, append-nil, arith}
 use Rattle.std.specs.List.{AllByRecursion, IsDistinct}
-use Rattle.cv_lists.proofs.Each.{AllByRecursion_append, AllByRecursion_flat_map, AllByRecursion_map}
-use Rattle.cv_lists.proofs.Tests.{differs}
+use Rattle.cv_syntax_trees.proofs.lists.Each.{AllByRecursion_append, AllByRecursion_flat_map, AllByRecursion_map}
+use Rattle.cv_syntax_trees.proofs.lists.Tests.{differs}
 use Rattle.cv_meaning.specs.Candidates.{below}
 use Rattle.cv_meaning.specs.Cells.{tuples_below}
 use Rattle.cv_meaning.specs.Tapes.{New_at, same_cell, same_tuple}

@@ -18,7 +18,7 @@ use Rattle.cv_steps.specs.Rewriting.{is_term, parts_of}
 use Rattle.cv_steps.proofs.Flat.{open_phrase}
 use Rattle.cv_steps.proofs.Places.{is_bare}
 use Rattle.cv_rule_fresh.specs.collisions.Chances.{copies}
-use Rattle.cv_lists.proofs.Each.{AllByRecursion_append, AllByRecursion_weaker}
+use Rattle.cv_syntax_trees.proofs.lists.Each.{AllByRecursion_append, AllByRecursion_weaker}
 use Rattle.cv_rule_birthday.specs.Comparing.{is_one_of}
 use Rattle.cv_rule_birthday.specs.guess.Guessing.{Places, falsified, is_equality, is_guess}
 use Rattle.cv_rule_birthday.specs.guess.Row.{or_none, parameters_of}

@@ -33,12 +33,11 @@ use Rattle.cv_meaning_chances.proofs.rewording.Alike.{holds_reworded}
 use Rattle.cv_meaning_chances.proofs.rewording.SameCells.{same_cells}
 use Rattle.cv_meaning_runs.specs.Listed.{IsTestable}
 use Rattle.cv_meaning_runs.specs.Replacement.{Process}
-use Rattle.cv_meaning_runs.specs.Spots.{has_place, spots_of_inputs, spots_of_visits}
+use Rattle.cv_meaning_runs.specs.Spots.{has_place, spots_of_inputs, spots_of_visits, same_spot}
 use Rattle.cv_meaning_runs.proofs.Lists.{distinct_left}
 use Rattle.cv_meaning_runs.proofs.Spots.{spots_distinct}
-use Rattle.cv_meaning_runs.specs.Spots.{same_spot}
-use Rattle.cv_directory_sorts.specs.Sites.{Variable, first_site}
-use Rattle.cv_directory_sorts.specs.declared.sort.Sort.TheVariants.{OfType}
+use Rattle.cv_syntax_trees.specs.sites.Sites.{Variable, first_site}
+use Rattle.cv_syntax_trees.specs.declared.sites.sort.Sort.TheVariants.{OfType}
 use Rattle.cv_scope_rules.specs.typing.Parts.{IsTypedGame}
 use Rattle.cv_typing_runs.specs.Games.{sort_of_meaning, variable_of_meaning}
 use Rattle.cv_typing_runs.proofs.Games.{restrictions}
@@ -66,8 +65,8 @@ use Rattle.cv_rule_fresh.specs.collisions.Chances.{copies}
 use Rattle.cv_rule_fresh.proofs.Hits.{first_that}
 use Rattle.cv_rule_fresh.proofs.Keeping.{nothing_apart, product_copies}
 use Rattle.cv_rule_fresh.proofs.Listed.{bounds, cells_sized, indices_within}
-use Rattle.cv_lists.proofs.Each.{AllByRecursion_both, AllByRecursion_flat_map}
-use Rattle.cv_lists.proofs.Tests.{or_false}
+use Rattle.cv_syntax_trees.proofs.lists.Each.{AllByRecursion_both, AllByRecursion_flat_map}
+use Rattle.cv_syntax_trees.proofs.lists.Tests.{or_false}
 use Rattle.cv_scene.specs.Large.{is_large, is_large_by, first_other_site}
 use Rattle.cv_rule_birthday.specs.Comparing.{is_one_of as among}
 use Rattle.cv_rule_birthday.specs.guess.Guessing.{first_other_read, without_guesses}

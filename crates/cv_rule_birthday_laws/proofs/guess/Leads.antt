@@ -2,9 +2,9 @@
 use Rattle.std.proofs.Common.{◌≡◌, ℕ, true, false, not, List, [], Option, Some, None, refl}
 use Rattle.std.proofs.lemmas.Bool.{not-true}
 use Rattle.cv_syntax_trees.specs.Tree.{Tree}
-use Rattle.cv_directory_sorts.specs.Sites.{Variable, first_site}
-use Rattle.cv_directory_sorts.specs.declared.sort.Sort.{Sort}
-use Rattle.cv_directory_sorts.specs.declared.sort.Sort.TheVariants.{BelowParameter, OfType}
+use Rattle.cv_syntax_trees.specs.sites.Sites.{Variable, first_site}
+use Rattle.cv_syntax_trees.specs.declared.sites.sort.Sort.{Sort}
+use Rattle.cv_syntax_trees.specs.declared.sites.sort.Sort.TheVariants.{BelowParameter, OfType}
 use Rattle.cv_scene.specs.Scenes.{Scene, is_queried}
 use Rattle.cv_steps.specs.Steps.{Cost, Leads}
 use Rattle.cv_steps.proofs.Rows.{leads_same, unless_at_leads, unless_leads}

@@ -31,8 +31,8 @@ use Rattle.cv_scope_runs.proofs.Rows.{placed, position_of}
 use Rattle.cv_scope_runs.proofs.Standing.{Stands, first_below, in_first, in_second, root, second_below, stands_known}
 use Rattle.cv_steps.specs.Rewriting.{is_term, parts_of}
 use Rattle.cv_steps.proofs.Flat.{guarded_of, guards_of, terms_still}
-use Rattle.cv_lists.proofs.Each.{AllByRecursion_append, AllByRecursion_left, AllByRecursion_right}
-use Rattle.cv_lists.proofs.Tests.{differ_comm}
+use Rattle.cv_syntax_trees.proofs.lists.Each.{AllByRecursion_append, AllByRecursion_left, AllByRecursion_right}
+use Rattle.cv_syntax_trees.proofs.lists.Tests.{differ_comm}
 use Rattle.cv_costs.proofs.quiet.Shapes.{left_false}
 use Rattle.cv_scene.specs.Large.{chooses, first_other_site}
 use Rattle.cv_rule_birthday.specs.guess.Guessing.{Places, falsified, is_equality, is_guess, reads}

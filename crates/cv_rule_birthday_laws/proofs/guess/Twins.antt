@@ -21,8 +21,8 @@ use Rattle.cv_meaning_runs.proofs.Listed.{cells_listed}
 use Rattle.cv_costs.specs.quiet.Quiet.{IsQuiet, only}
 use Rattle.cv_costs.specs.quiet.Twins.{AgreesBut, AreOne, AreRelated, AreVisitsRelated}
 use Rattle.cv_costs.proofs.quiet.Served.{visits_related}
-use Rattle.cv_lists.proofs.Each.{AllByRecursion_left, AllByRecursion_right, AllByRecursion_trivial, AllByRecursion_weaker}
-use Rattle.cv_lists.proofs.Tests.{or_false}
+use Rattle.cv_syntax_trees.proofs.lists.Each.{AllByRecursion_left, AllByRecursion_right, AllByRecursion_trivial, AllByRecursion_weaker}
+use Rattle.cv_syntax_trees.proofs.lists.Tests.{or_false}
 
 in_order_self : {A : Type 0} (R : A → A → Type 0) (vs : List A) → InOrder R vs vs → AllByRecursion (λ v. R v v) vs
 in_order_self R [] h = tt

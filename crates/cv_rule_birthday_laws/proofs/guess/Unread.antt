@@ -2,7 +2,7 @@
 use Rattle.std.proofs.Common.{◌≡◌, ℕ, ◌==◌, ◌&&◌, ◌||◌, not, Bool, true, false, cond, List, [], ◌∷◌, Some, None, refl, sym, ap, ap₂, subst, ◌∙◌}
 use Rattle.std.proofs.lemmas.Bool.{both_ways, and_parts}
 use Rattle.std.specs.List.{AllByRecursion, list_any}
-use Rattle.cv_lists.specs.Options.{first_of}
+use Rattle.cv_syntax_trees.specs.lists.Options.{first_of}
 use Rattle.cv_syntax_trees.specs.declared.head.Head.{Head}
 use Rattle.cv_syntax_trees.specs.declared.head.Head.TheVariants.{In, New, Branch, Leaf, Read, Apply, Eq, And, Or, Not, Yes, No, Cons, Key, Call}
 use Rattle.cv_syntax_trees.specs.Tree.{Tree, Empty, Node, first, second, first_place, second_place, head_reads_only, reads_only}
@@ -20,8 +20,8 @@ use Rattle.cv_costs.specs.quiet.Quiet.{only}
 use Rattle.cv_steps.specs.Rewriting.{by_parts, is_term, parts_of}
 use Rattle.cv_steps.proofs.Flat.{open_phrase}
 use Rattle.cv_steps.proofs.Places.{bare_is_no_term, is_bare, parts_bare}
-use Rattle.cv_lists.proofs.Each.{AllByRecursion_append}
-use Rattle.cv_lists.proofs.Tests.{and_false, and_true}
+use Rattle.cv_syntax_trees.proofs.lists.Each.{AllByRecursion_append}
+use Rattle.cv_syntax_trees.proofs.lists.Tests.{and_false, and_true}
 use Rattle.cv_costs.proofs.quiet.Shapes.{left_false}
 use Rattle.cv_scene.specs.Large.{chooses, first_other_site}
 use Rattle.cv_rule_birthday.specs.guess.Guessing.{Places, falsified, first_read, has_value, is_equality, is_guess, reads}

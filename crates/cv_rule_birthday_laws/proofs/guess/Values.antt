@@ -20,8 +20,8 @@ use Rattle.cv_scope_runs.specs.Promises.{AreIndicesOf}
 use Rattle.cv_scope_runs.proofs.Asked.{Asked}
 use Rattle.cv_scope_runs.proofs.Rows.{position_of}
 use Rattle.cv_scene.specs.Scenes.{head_reads}
-use Rattle.cv_lists.proofs.Tests.{equals_comm}
-use Rattle.cv_lists.proofs.Each.{AllByRecursion_left, AllByRecursion_right}
+use Rattle.cv_syntax_trees.proofs.lists.Tests.{equals_comm}
+use Rattle.cv_syntax_trees.proofs.lists.Each.{AllByRecursion_left, AllByRecursion_right}
 use Rattle.cv_rule_birthday.specs.guess.Guessing.{Places, falsified, reads}
 use Rattle.cv_rule_birthday_laws.specs.guess.Spots.{Misses, Spot, spot_of, spots, tuple_of}
 use Rattle.cv_rule_birthday_laws.proofs.guess.Falsified.{kept_bare, kept_read}

@@ -10,7 +10,7 @@ use Rattle.cv_meaning.specs.Inputs.{Input, message_binders}
 use Rattle.cv_meaning.specs.Serving.{Served, Turn, Ends, First, Second, after_turn, serve, step, Visit, visits}
 use Rattle.cv_meaning.specs.Runs.{Adversary, Mode, Answer, Move, Calls, Tests, Guesses, State, Taken, admitted, begun, by_move, called, if_fitting, moved, next_move, run_from, run_visits, start, taken, tested_with, told, visits_of_call, visits_of_move}
 use Rattle.cv_meaning.specs.Experiments.{coins_on, run, visits_of_run}
-use Rattle.cv_lists.proofs.Each.{AllByRecursion_append}
+use Rattle.cv_syntax_trees.proofs.lists.Each.{AllByRecursion_append}
 use Rattle.cv_meaning_laws.proofs.Moves.{TakenEach, admitted_each}
 use Rattle.cv_meaning_chances.specs.alignment.Points.{Point}
 use Rattle.cv_rule_codef.specs.kept.Kept.{HasIt, IsKept, Keeps}

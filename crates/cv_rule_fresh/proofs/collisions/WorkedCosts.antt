@@ -15,7 +15,7 @@ use Rattle.cv_meaning.specs.Correspondences.{assignments, broken, can_match, pos
 use Rattle.cv_meaning.specs.Advantage.{chance_of}
 use Rattle.cv_meaning.specs.Chances.{Same, distance}
 use Rattle.cv_meaning.specs.Replaced.{replaced}
-use Rattle.cv_directory_sorts.specs.Sites.{bound_sort, first_site, is_untyped_in}
+use Rattle.cv_syntax_trees.specs.sites.Sites.{bound_sort, first_site, is_untyped_in}
 use Rattle.cv_scope_rules.specs.Context.{context_at}
 use Rattle.cv_steps.specs.Rewriting.{has_term_at}
 use Rattle.cv_steps.specs.Steps.{Leads}

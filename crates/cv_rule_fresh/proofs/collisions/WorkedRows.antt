@@ -4,8 +4,8 @@ use Rattle.std.specs.List.{AllByRecursion}
 use Rattle.cv_syntax.specs.faults.Walk.{first_fault}
 use Rattle.cv_syntax_trees.specs.Tree.{same_tree, size, subtree}
 use Rattle.cv_meaning.specs.Replaced.{replaced}
-use Rattle.cv_directory_sorts.specs.Counting.{count}
-use Rattle.cv_directory_sorts.specs.Sites.{bound_sort, first_site, is_untyped_in}
+use Rattle.cv_syntax_trees.specs.sites.Counting.{count}
+use Rattle.cv_syntax_trees.specs.sites.Sites.{bound_sort, first_site, is_untyped_in}
 use Rattle.cv_scope_rules.specs.Context.{context_at}
 use Rattle.cv_scope_rules.specs.Phrases.{IsWellFormed, binds_none, is_phrase}
 use Rattle.cv_scope_rules.specs.Scope.{names_of}

@@ -12,7 +12,7 @@ use Rattle.cv_scope_rules.specs.Made.{is_bound, is_own_of}
 use Rattle.cv_scope_rules.specs.Phrases.{Arm, Binders, Branches, Nil, is_phrase}
 use Rattle.cv_steps.proofs.Flat.{guarded_of, guards_of}
 use Rattle.cv_rule_move.specs.merge.Merging.{Body, bodies, branch_bodies, first_other}
-use Rattle.cv_lists.proofs.Each.{AllByRecursion_parts, AllByRecursion_append}
+use Rattle.cv_syntax_trees.proofs.lists.Each.{AllByRecursion_parts, AllByRecursion_append}
 
 -- what a tree's parts have as it has
 

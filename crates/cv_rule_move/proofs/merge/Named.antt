@@ -1,7 +1,7 @@
 -- Where and_false place names one of some variables but those that are passed over, what stands at other places reads none.
 use Rattle.std.proofs.Common.{◌≡◌, ℕ, ◌+◌, ◌<◌, ◌≤◌, Bool, true, false, cond, not, ◌&&◌, ◌||◌, ◌⊎◌, inl, inr, Option, Some, None, refl, ap, ap₂, subst, ◌∙◌, arith, nat_lt, le-ltb, lt-ltb}
 use Rattle.std.proofs.lemmas.Bool.{both_ways}
-use Rattle.cv_directory_sorts.specs.Sites.{first_of}
+use Rattle.cv_syntax_trees.specs.sites.Sites.{first_of}
 use Rattle.cv_syntax_trees.specs.declared.head.Head.{Head}
 use Rattle.cv_syntax_trees.specs.declared.head.Head.TheVariants.{Branch, Cons, Find, Leaf, Par, Read}
 use Rattle.cv_syntax_trees.specs.Head.{weight}
@@ -11,7 +11,7 @@ use Rattle.cv_meaning_runs.specs.Replacement.{IsReplaced, Part, Process, before_
 use Rattle.cv_meaning_chances.specs.unread.Dropping.{reads_none}
 use Rattle.cv_rule_move.specs.merge.Merging.{Body, is_beside}
 use Rattle.cv_costs.specs.names.Naming.{first_naming, names_one}
-use Rattle.cv_lists.proofs.Tests.{and_false}
+use Rattle.cv_syntax_trees.proofs.lists.Tests.{and_false}
 
 none_of : (v : Bool) (p : ℕ) (o q : Option ℕ) → cond v (Some p) (first_of o q) ≡ None → (v ≡ false) × (o ≡ None) × (q ≡ None)
 none_of true p o q e = absurd (cc)

@@ -22,7 +22,7 @@ use Rattle.cv_rule_move.specs.merge.Merging.{Body, bodies, branch_bodies, first_
 use Rattle.cv_costs.specs.names.Naming.{first_naming, is_between, is_one_queried}
 use Rattle.cv_rule_move.specs.merge.Row.{merge_row, merge_row_by, merge_step}
 use Rattle.cv_rule_move.specs.merge.Site.{IsSite, body_of}
-use Rattle.cv_lists.proofs.Each.{AllByRecursion_append}
+use Rattle.cv_syntax_trees.proofs.lists.Each.{AllByRecursion_append}
 
 -- where the index variables are named besides
 

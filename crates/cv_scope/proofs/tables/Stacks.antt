@@ -2,7 +2,7 @@
 use Rattle.std.proofs.Common.{◌≡◌, ℕ, zero, suc, Bool, true, false, ◌⊎◌, inl, inr, List, [], ◌∷◌, ◌++◌, length, take, refl, ap, sym, ◌∙◌, subst, Some, None, nat_eq, eqb-true}
 use Rattle.std.specs.Prelude.{slice_get}
 use Rattle.std.proofs.lemmas.Bool.{and_parts, and_from, or_cases, or_left, or_right, both_ways, eq-eqb}
-use Rattle.cv_directory_sorts.specs.Pairs.{same_pair}
+use Rattle.cv_syntax_trees.specs.sites.Pairs.{same_pair}
 use Rattle.cv_scope.specs.tables.Ordered.{IsPlaced}
 use Rattle.cv_scope.specs.declared.tables.places.Places.{Places}
 use Rattle.cv_scope.specs.tables.Places.{place_of}

@@ -1,7 +1,7 @@
 -- Variables that are defined above a node, each with the number of replications above its definition.
 use Rattle.std.specs.Prelude.{ℕ, Bool, if◌then◌else◌, List, [], ◌∷◌, ◌++◌}
 use Rattle.std.specs.List.{list_any}
-use Rattle.cv_directory_sorts.specs.Pairs.{same_pair}
+use Rattle.cv_syntax_trees.specs.sites.Pairs.{same_pair}
 
 abbrev pub is_defined : List (ℕ × ℕ) → ℕ × ℕ → Bool
 is_defined ds d = list_any (same_pair d) ds

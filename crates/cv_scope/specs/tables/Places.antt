@@ -1,7 +1,7 @@
 -- Places of variables with numbers of indices: in rows by names, and apart.
 use Rattle.std.specs.Prelude.{ℕ, Bool, true, ◌==◌, if◌then◌else◌, List, slice_index_or, Option, Some, None}
 use Rattle.std.specs.HashMap.{get}
-use Rattle.cv_directory_sorts.specs.Pairs.{same_pair}
+use Rattle.cv_syntax_trees.specs.sites.Pairs.{same_pair}
 use Rattle.cv_scope.specs.declared.tables.places.Places.{Places}
 
 abbrev pub row_at : List (Option (ℕ × ℕ)) → ℕ → Option (ℕ × ℕ)

@@ -1,5 +1,5 @@
 ghost use Rattle.std.specs.Prelude.{◌≡◌, ◌<◌, ◌==◌, ◌&&◌, ℕ, false, List, None, Some, length, nat_eq, slice_index_or, IfOk, OnOk};
-ghost use Rattle.cv_directory_sorts.specs.Pairs.{same_pair};
+ghost use Rattle.cv_syntax_trees.specs.sites.Pairs.{same_pair};
 ghost use Rattle.cv_scope.specs.tables.Places.{is_free as is_free_for, place_of, row_at};
 
 use std::alloc::{AllocError, Global};

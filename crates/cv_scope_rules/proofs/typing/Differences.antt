@@ -3,10 +3,10 @@ use Rattle.std.proofs.Common.{◌≡◌, ℕ, Bool, true, false, ◌||◌, refl,
 use Rattle.cv_syntax_trees.specs.declared.head.Head.{Head}
 use Rattle.cv_syntax_trees.specs.declared.head.Head.TheVariants.{Binder}
 use Rattle.cv_syntax_trees.specs.Tree.{Tree, Empty, Node}
-use Rattle.cv_directory_sorts.specs.declared.sort.Sort.{Sort}
+use Rattle.cv_syntax_trees.specs.declared.sites.sort.Sort.{Sort}
 use Rattle.cv_scope_rules.specs.typing.Signature.{Arrays, variable_sort}
 use Rattle.cv_scope_rules.specs.typing.Typing.{binders_differ}
-use Rattle.cv_directory_sorts.specs.Sorts.{differs_from}
+use Rattle.cv_syntax_trees.specs.sites.Sorts.{differs_from}
 
 pub differ_step : (r : Arrays) (sort : ℕ → Sort) (t : Tree) (h : Head) (a b : Tree) (x T : ℕ) → t ≡ Node h a b → h ≡ Binder x T → binders_differ r sort t ≡ (differs_from (variable_sort r x) (sort T) || binders_differ r sort b)
 unfolding binders_differ

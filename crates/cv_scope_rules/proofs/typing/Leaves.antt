@@ -1,9 +1,9 @@
 -- The sort of a bare name, step by step.
 use Rattle.std.proofs.Common.{◌≡◌, ℕ, ap₂, sym, ◌∙◌, Option, None}
 use Rattle.std.specs.Prelude.{option_map}
-use Rattle.cv_directory_sorts.specs.declared.sort.Sort.{Sort}
-use Rattle.cv_directory_sorts.specs.declared.sort.Sort.TheVariants.{OfType, BelowParameter}
-use Rattle.cv_directory_sorts.specs.Sites.{first_of}
+use Rattle.cv_syntax_trees.specs.declared.sites.sort.Sort.{Sort}
+use Rattle.cv_syntax_trees.specs.declared.sites.sort.Sort.TheVariants.{OfType, BelowParameter}
+use Rattle.cv_syntax_trees.specs.sites.Sites.{first_of}
 use Rattle.cv_scope_rules.specs.typing.Signature.{Signature, Function, Above, defined_sort, function_in, index_in, leaf_sort}
 
 -- a name that is neither bound above nor has a definition

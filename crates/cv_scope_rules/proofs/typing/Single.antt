@@ -5,7 +5,7 @@ use Rattle.cv_syntax_trees.specs.Declarations.{Declaration}
 use Rattle.cv_scope_rules.specs.declared.typing.fault.Fault.{Fault}
 use Rattle.cv_scope_rules.specs.declared.typing.fault.TypeFault.{TypeFault}
 use Rattle.cv_scope_rules.specs.declared.typing.fault.TypeFault.TheVariants as refused
-use Rattle.cv_directory_sorts.specs.Sites.{first_of}
+use Rattle.cv_syntax_trees.specs.sites.Sites.{first_of}
 use Rattle.cv_scope_rules.specs.typing.Parts.{Part, first_in, signature_of}
 use Rattle.cv_scope_rules.specs.typing.Refusals.{IsRefusalOf, named}
 use Rattle.cv_scope_rules.specs.typing.Typing.{first_fault}

@@ -7,12 +7,11 @@ use Rattle.cv_syntax_trees.specs.Tree.{Tree, Empty, Node, first, second, size}
 use Rattle.cv_scope_rules.specs.declared.typing.fault.Fault.{Fault}
 use Rattle.cv_scope_rules.specs.declared.typing.form.Form.TheVariants.{InProcess, InBody}
 use Rattle.cv_scope_rules.specs.declared.typing.precedence.Precedence.TheVariants.{First, Newest}
-use Rattle.cv_directory_sorts.specs.declared.sort.Sort.{Sort}
-use Rattle.cv_directory_sorts.specs.declared.sort.Sort.TheVariants.{OfType}
-use Rattle.cv_directory_sorts.specs.Sites.{first_of, sites_of}
+use Rattle.cv_syntax_trees.specs.declared.sites.sort.Sort.{Sort}
+use Rattle.cv_syntax_trees.specs.declared.sites.sort.Sort.TheVariants.{OfType}
+use Rattle.cv_syntax_trees.specs.sites.Sites.{first_of, sites_of}
 use Rattle.cv_scope_rules.specs.typing.Signature.{Signature, Arrays, OfGame, OfSide, OfNothing, Above, boolean, sort_of}
-use Rattle.cv_scope_rules.specs.typing.Wants.{Want, Run, Of, Correspondence}
-use Rattle.cv_scope_rules.specs.typing.Wants.{all_bound}
+use Rattle.cv_scope_rules.specs.typing.Wants.{Want, Run, Of, Correspondence, all_bound}
 use Rattle.cv_scope_rules.specs.typing.Typing.{IsTyped, Faulty, first_fault}
 
 pub record Part : Type 0 where

@@ -5,9 +5,9 @@ use Rattle.cv_syntax_trees.specs.declared.head.Head.{Head}
 use Rattle.cv_syntax_trees.specs.declared.head.Head.TheVariants.{Name, Leaf, Read, Apply, Eq, And, Or, Not, Yes, No, Event, Occurs, OccursOnce}
 use Rattle.cv_syntax_trees.specs.Declarations.{Declaration, Named, Equiv}
 use Rattle.cv_syntax_trees.specs.Tree.{Tree, Empty, Node, first}
-use Rattle.cv_directory_sorts.specs.declared.sort.Sort.{Sort}
-use Rattle.cv_directory_sorts.specs.declared.sort.Sort.TheVariants.{OfType, BelowParameter}
-use Rattle.cv_directory_sorts.specs.Sites.{SitesView, Variable, first_of}
+use Rattle.cv_syntax_trees.specs.declared.sites.sort.Sort.{Sort}
+use Rattle.cv_syntax_trees.specs.declared.sites.sort.Sort.TheVariants.{OfType, BelowParameter}
+use Rattle.cv_syntax_trees.specs.sites.Sites.{SitesView, Variable, first_of}
 
 abbrev pub boolean : Sort
 boolean = OfType 0

@@ -7,11 +7,11 @@ use Rattle.cv_syntax.specs.faults.Walk.{Walk, IsObeyed}
 use Rattle.cv_syntax.specs.faults.Walk as walk
 use Rattle.cv_scope_rules.specs.declared.typing.fault.Fault.{Fault}
 use Rattle.cv_scope_rules.specs.declared.typing.fault.Fault.TheVariants.{WrongType, Arity, IndexAsMessage, NotFixed}
-use Rattle.cv_directory_sorts.specs.declared.sort.Sort.{Sort}
-use Rattle.cv_directory_sorts.specs.declared.sort.Sort.TheVariants.{OfType, BelowParameter}
+use Rattle.cv_syntax_trees.specs.declared.sites.sort.Sort.{Sort}
+use Rattle.cv_syntax_trees.specs.declared.sites.sort.Sort.TheVariants.{OfType, BelowParameter}
 use Rattle.cv_scope_rules.specs.typing.Signature.{Signature, Arrays, Above, variable_sort, defined_sort, is_fixed_in, sort_by, arity_by, is_arity}
-use Rattle.cv_directory_sorts.specs.Sorts.{differs_from}
-use Rattle.cv_directory_sorts.specs.Counting.{count}
+use Rattle.cv_syntax_trees.specs.sites.Sorts.{differs_from}
+use Rattle.cv_syntax_trees.specs.sites.Counting.{count}
 use Rattle.cv_scope_rules.specs.typing.Wants.{Want, wants, is_wrong, is_index_sent, above_second}
 
 -- A definition of a variable has the sort of its first site. In a body of an equivalence a name that its function binds

@@ -8,11 +8,11 @@ use Rattle.cv_scope_rules.specs.declared.typing.form.Form.{Form}
 use Rattle.cv_scope_rules.specs.declared.typing.form.Form.TheVariants.{InProcess, InBody}
 use Rattle.cv_scope_rules.specs.declared.typing.precedence.Precedence.{Precedence}
 use Rattle.cv_scope_rules.specs.declared.typing.precedence.Precedence.TheVariants.{First, Newest}
-use Rattle.cv_directory_sorts.specs.declared.sort.Sort.{Sort}
-use Rattle.cv_directory_sorts.specs.declared.sort.Sort.TheVariants.{OfType, BelowParameter}
-use Rattle.cv_directory_sorts.specs.Sites.{Variable, first_of}
+use Rattle.cv_syntax_trees.specs.declared.sites.sort.Sort.{Sort}
+use Rattle.cv_syntax_trees.specs.declared.sites.sort.Sort.TheVariants.{OfType, BelowParameter}
+use Rattle.cv_syntax_trees.specs.sites.Sites.{Variable, first_of}
 use Rattle.cv_scope_rules.specs.typing.Signature.{Signature, Function, Arrays, OfGame, OfSide, OfNothing, Above, boolean, function_in, event_in, sort_of}
-use Rattle.cv_directory_sorts.specs.Sorts.{same_sort}
+use Rattle.cv_syntax_trees.specs.sites.Sorts.{same_sort}
 
 pub data Want : Type 0 where
   -- a process or a body; the branches of a `find`; the cells, the condition and the body of a branch; its condition and body

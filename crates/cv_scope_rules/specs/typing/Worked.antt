@@ -1,7 +1,7 @@
 -- Small games and files with their first faults.
 use Rattle.std.specs.Prelude.{ℕ, true, false, List, [], ◌∷◌, ◌++◌, Option, Some, None}
 use Rattle.cv_syntax_trees.specs.declared.class.Class.TheVariants as class
-use Rattle.cv_syntax_trees.specs.declared.head.Head.TheVariants.{Stop, Yield, Par, Repl, In, Out, Event, New, Let, If, Find, Branch, Leaf, Read, Apply, Eq, And, Or, Not, Yes, No, Cons, Forall, Query as Correspondence, Occurs, Secret, Equivalence, Bound, Oracle}
+use Rattle.cv_syntax_trees.specs.declared.head.Head.TheVariants.{Stop, Yield, Par, Repl, In, Out, Event, New, Let, If, Find, Branch, Leaf, Read, Apply, Eq, And, Or, Not, Yes, No, Cons, Forall, Query as Correspondence, Occurs, SomeOf, Secret, Equivalence, Bound, Oracle}
 use Rattle.cv_syntax_trees.specs.Declarations.{Declaration, Named, Equation, Equiv, Query}
 use Rattle.cv_syntax_trees.specs.Tree.{Tree, Empty, Node, lone, chain, names, binders}
 use Rattle.cv_scope_rules.specs.declared.typing.fault.Fault.{Fault}
@@ -208,6 +208,13 @@ query bs t ts = Query (Node Correspondence (binders bs) (Node Cons t (chain ts))
 abbrev happens : ℕ → List Tree → Tree
 happens v ts = Node (Occurs v) (chain ts) Empty
 
+abbrev either : Tree → Tree → Tree
+either a b = Node SomeOf a b
+
+-- x: T, y: U; event e(x) ==> ..
+abbrev query_some : Tree → Declaration
+query_some right = Query (Node Correspondence (binders ((x, T) ∷ (y, U) ∷ [])) (Node Cons (happens e (bare x ∷ [])) right))
+
 -- !n1 new r: T; (O1: !m1 (z: U) -> .. | O2: !m2 new s: T; (w: U) -> ..)
 abbrev side : Tree → Tree → Tree
 side t s =
@@ -242,6 +249,12 @@ files =
     ∷ (query ((x, U) ∷ []) (happens e (bare x ∷ [])) (happens q [] ∷ []) ∷ [], at 0 WrongType)
     ∷ (query ((x, T) ∷ []) (happens e (bare x ∷ [])) (bare x ∷ []) ∷ [], at 1 WrongType)
     ∷ (Query (lone (Secret x)) ∷ [], none)
+    -- alternatives, at the top and in parentheses
+    ∷ (query_some (either (happens e (bare x ∷ [])) (happens q [])) ∷ [], none)
+    ∷ (query_some (either (happens e (bare x ∷ [])) (happens e (bare y ∷ []))) ∷ [], at 2 WrongType)
+    ∷ (query_some (either (happens q []) (chain (happens e (bare x ∷ []) ∷ bare x ∷ []))) ∷ [], at 2 WrongType)
+    ∷ (query_some (either (happens q []) (either (happens e (bare x ∷ [])) (happens e []))) ∷ [], at 2 Arity)
+    ∷ (query_some (chain (equal (bare x) (bare x) ∷ either (happens e (bare x ∷ [])) (happens e (bare y ∷ [])) ∷ [])) ∷ [], at 5 WrongType)
     -- the results of a function have one type on both sides
     ∷ (equivalence (bare 52) (call g (bare 60 ∷ bare 61 ∷ [])) (bare k) yes ∷ [], none)
     ∷ (equivalence (bare 52) (call g (bare 60 ∷ bare 61 ∷ [])) (bare 56) yes ∷ [], at 4 WrongType)

@@ -1,4 +1,4 @@
-use cv_directory_sorts::Sort;
+use cv_syntax_trees::sites::Sort;
 
 /// Where `new`, `let`, tests and finds stand.
 #[derive(Clone, Copy, Debug, PartialEq, Eq)]

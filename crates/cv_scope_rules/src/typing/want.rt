@@ -1,6 +1,6 @@
 use crate::typing::form::Form;
-use cv_directory_sorts::Sort;
 use cv_syntax::NodeId;
+use cv_syntax_trees::sites::Sort;
 
 /// What a position asks of the tree that stands there.
 #[derive(Clone, Copy, Debug)]

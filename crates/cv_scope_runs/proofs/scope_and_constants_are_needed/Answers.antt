@@ -9,8 +9,8 @@ use Rattle.cv_meaning.specs.Serving.{step, serve}
 use Rattle.cv_meaning.specs.Runs.{taken, moved, run_from}
 use Rattle.cv_meaning.specs.Experiments.{run, holds_on}
 use Rattle.cv_meaning.specs.Correspondences.{assignments, broken}
-use Rattle.cv_directory_sorts.specs.Sites.{first_site, bound_sort}
-use Rattle.cv_directory_sorts.specs.Counting.{count}
+use Rattle.cv_syntax_trees.specs.sites.Sites.{first_site, bound_sort}
+use Rattle.cv_syntax_trees.specs.sites.Counting.{count}
 use Rattle.cv_scope_rules.specs.Sites.{sites_from}
 use Rattle.cv_scope_rules.specs.Standing.{at_root}
 use Rattle.cv_scope_rules.specs.Scope.{is_untyped_in, names_of, IsScoped}

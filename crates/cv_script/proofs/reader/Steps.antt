@@ -36,7 +36,7 @@ use Rattle.cv_syntax.specs.limits.Limits.{nodes_of}
 use Rattle.cv_script.specs.reader.Stages.{Crowds, IsScript, at_token}
 use Rattle.cv_script.specs.reader.Trees.{in_room, of_whole, script_nodes, script_tree, whole}
 use Rattle.cv_syntax.proofs.listing.Lists.{overs_append}
-use Rattle.cv_lists.proofs.Tests.{then_branch, else_branch}
+use Rattle.cv_syntax_trees.proofs.lists.Tests.{then_branch, else_branch}
 
 -- reading stopped at a place
 

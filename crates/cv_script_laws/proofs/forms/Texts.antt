@@ -1,6 +1,6 @@
 -- The phrases of files in a script, whatever its names are: a term or a cell is a node.
 use Rattle.std.proofs.Common.{◌≡◌, ℕ, zero, suc, Bool, true, false, List, Option, Some, None, inl, inr, refl}
-use Rattle.cv_lists.proofs.Each.{AllByRecursion_always, AllByRecursion_weaker}
+use Rattle.cv_syntax_trees.proofs.lists.Each.{AllByRecursion_always, AllByRecursion_weaker}
 use Rattle.cv_syntax_trees.specs.Tree.{Tree, Empty, Node}
 use Rattle.cv_parse_notation.specs.declared.sign.Sign.{Sign}
 use Rattle.cv_parse_notation.specs.Form.{Form, sign, script_word, word, number, nought, find_word, unnamed, other, note, both, may, many, either, made, level, deeper}

@@ -1,6 +1,6 @@
 -- What good tokens spell by a row of the table of scripts, one level down and at the top, are known trees of the table.
 use Rattle.std.proofs.Common.{◌≡◌, ℕ, zero, suc, Bool, true, false, ◌&&◌, ◌||◌, nat_lt, ◌⊎◌, inl, inr, List, eqb, eqb-true, refl, subst}
-use Rattle.cv_lists.proofs.Tests.{and_first, and_second, or_cases}
+use Rattle.cv_syntax_trees.proofs.lists.Tests.{and_first, and_second, or_cases}
 use Rattle.cv_syntax_trees.specs.Tree.{Tree}
 use Rattle.cv_parse_notation.specs.declared.sign.Sign.{Sign}
 use Rattle.cv_parse_notation.specs.Form.{Form, both, either, made, level, deeper}

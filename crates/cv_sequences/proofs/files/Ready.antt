@@ -17,7 +17,7 @@ use Rattle.cv_parse_sorts.proofs.Known.{queries_known}
 use Rattle.cv_parse_laws.proofs.roles.Games.{arguments_named, constants_declared, sorts_declared}
 use Rattle.cv_parse_sorts.proofs.NamedGames.{functions_and_cells_named}
 use Rattle.cv_parse_sorts.proofs.TypedRuns.{last_typed}
-use Rattle.cv_accept.specs.Accepted.{Content, IsFile, read_of}
+use Rattle.cv_accept.specs.Accepted.{Content, IsFile, read_of, most_pool, most_bytes}
 use Rattle.cv_accept.proofs.Blocks.{few_names}
 use Rattle.cv_accept.proofs.Lengths.{few_tokens}
 use Rattle.cv_accept.proofs.Readings.{accepted, read_is_file}
@@ -56,15 +56,13 @@ use Rattle.cv_context_files.specs.right_forms.Forms.{HasRightForm}
 use Rattle.cv_context_files.proofs.right_forms.Files.{right_forms}
 use Rattle.cv_context_files.proofs.right_forms.TypedFiles.{right}
 use Rattle.cv_meaning.specs.contexts.Groups.{Right, side_group}
-use Rattle.cv_accept.specs.Accepted.{most_pool}
 use Rattle.cv_scene.specs.Scenes.{KnowsQueries}
 use Rattle.cv_sequences.specs.Chains.{IsEquivalenceOfFile, IsFileOf}
 use Rattle.cv_sequences.proofs.Asked.{choices_valued}
 use Rattle.cv_sequences.proofs.Choices.{game_valued}
 use Rattle.cv_steps_laws.specs.crypto.Conditions.{equivalence_by}
 use Rattle.cv_steps_laws.specs.crypto.Steps.{first_answer, reduction_of}
-use Rattle.cv_accept.specs.Accepted.{most_bytes}
-use Rattle.cv_lists.proofs.Options.{some_injective}
+use Rattle.cv_syntax_trees.proofs.lists.Options.{some_injective}
 
 game_ready : (limit : ℕ) (signs : List Sign) (p : Parsed) → parsed limit signs ≡ Ok p → IsTypedFile p.declarations p.game → IsScoped p.declarations p.game → IsReady p.declarations p.game
 game_ready limit signs p e t s =

@@ -72,8 +72,10 @@ fn push_chosen(
         return push_routes(makes, pool, routes);
     };
     push_number(makes, number)?;
-    push_routes(makes, pool, routes)?;
+    makes.push(Make::Nothing)?;
     makes.push(Make::Over(Head::AlternativePart))?;
+    push_routes(makes, pool, routes)?;
+    makes.push(Make::Over(Head::Cons))?;
     Ok(())
 }
 

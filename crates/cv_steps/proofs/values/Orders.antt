@@ -15,7 +15,7 @@ use Rattle.cv_bound.specs.declared.terms.Term.{Term}
 use Rattle.cv_bound.specs.declared.terms.Term.TheVariants as term
 use Rattle.cv_bound.specs.Sums.{same_factors, are_alike, merged, with_term, with_terms, counted, terms_of, added}
 use Rattle.cv_steps.specs.values.Orders.{bare, are_like_terms}
-use Rattle.cv_lists.proofs.Tests.{equals_refl}
+use Rattle.cv_syntax_trees.proofs.lists.Tests.{equals_refl}
 
 -- how the terms of a list begin
 abbrev Begins : List Term → List Term → Type 0

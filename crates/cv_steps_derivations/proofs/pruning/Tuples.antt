@@ -4,7 +4,7 @@ use Rattle.std.proofs.Math.Path.{fun_ext}
 use Rattle.std.proofs.lemmas.Grind.{flat_map-append}
 use Rattle.std.proofs.lemmas.List.{append-nil}
 use Rattle.cv_meaning.specs.Candidates.{below, tuples_up_to}
-use Rattle.cv_lists.proofs.Places.{flat_flat, flat_maps}
+use Rattle.cv_syntax_trees.proofs.lists.Places.{flat_flat, flat_maps}
 
 -- at most so many numbers, each below a bound
 abbrev pub is_within : ℕ → ℕ → List ℕ → Bool

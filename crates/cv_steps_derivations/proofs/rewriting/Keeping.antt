@@ -30,7 +30,7 @@ use Rattle.cv_steps.specs.Rows.{rewrite_row}
 use Rattle.cv_steps.proofs.Flat.{term_still}
 use Rattle.cv_steps.proofs.Rewritten.{rewrite_leads}
 use Rattle.cv_steps_derivations.proofs.rewriting.Reworded.{Holds, game_reworded}
-use Rattle.cv_lists.proofs.Each.{AllByRecursion_both}
+use Rattle.cv_syntax_trees.proofs.lists.Each.{AllByRecursion_both}
 
 both_all : {A : Type 0} (P Q R : A → Type 0) → ((x : A) → P x → Q x → R x) → (xs : List A) → All P xs → All Q xs → All R xs
 both_all P Q R f [] p q = All-nil R

@@ -32,7 +32,7 @@ use Rattle.cv_steps_laws.proofs.Unnamed.{asked_untested, dropped_phrase, dropped
 use Rattle.cv_steps_derivations.proofs.unletting.Puts.{IsPut, puts}
 use Rattle.cv_steps_derivations.proofs.unletting.Reworded.{Holds, game_reworded}
 use Rattle.cv_steps_derivations.proofs.unletting.Sites.{OneDefinition, only_definition}
-use Rattle.cv_lists.proofs.Each.{AllByRecursion_both}
+use Rattle.cv_syntax_trees.proofs.lists.Each.{AllByRecursion_both}
 
 every : {A : Type 0} (P : A → Type 0) → ((y : A) → P y) → (ys : List A) → All P ys
 every P k [] = All-nil P

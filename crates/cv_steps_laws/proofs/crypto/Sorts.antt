@@ -10,8 +10,8 @@ use Rattle.cv_meaning_laws.proofs.Listed.{Has}
 use Rattle.cv_meaning_laws.specs.adequacy.Typed.{IsDeclared}
 use Rattle.cv_meaning_laws.specs.adequacy.Typed as meaning
 use Rattle.cv_meaning_laws.proofs.adequacy.Lists.{has_contains}
-use Rattle.cv_directory_sorts.specs.declared.sort.Sort.{Sort}
-use Rattle.cv_directory_sorts.specs.declared.sort.Sort.TheVariants.{BelowParameter, OfType}
+use Rattle.cv_syntax_trees.specs.declared.sites.sort.Sort.{Sort}
+use Rattle.cv_syntax_trees.specs.declared.sites.sort.Sort.TheVariants.{BelowParameter, OfType}
 use Rattle.cv_scope_rules.specs.typing.Signature.{declaration_of, is_of}
 use Rattle.cv_typing_runs.specs.Games.{AreDeclared, HasDeclaredSorts, NamesDeclared, sort_of_meaning}
 use Rattle.cv_scene.specs.Scenes.{is_type_by}

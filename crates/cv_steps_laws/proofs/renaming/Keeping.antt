@@ -10,7 +10,7 @@ use Rattle.cv_meaning.specs.Experiments.{Experiment, Breaks, Guesses, mode_of}
 use Rattle.cv_meaning.specs.Interpretation.{Interpretation, is_constant_of, setting_of}
 use Rattle.cv_meaning.specs.Queries.{queries_in}
 use Rattle.cv_meaning.specs.Runs.{Events, Real, Random}
-use Rattle.cv_directory_sorts.specs.Sites.{first_site}
+use Rattle.cv_syntax_trees.specs.sites.Sites.{first_site}
 use Rattle.cv_scope_rules.specs.Scope.{is_untyped_in}
 use Rattle.cv_scope_rules.specs.Phrases.{IsWellFormed, binds_none}
 use Rattle.cv_scope_rules.proofs.Unbound.{no_variable}

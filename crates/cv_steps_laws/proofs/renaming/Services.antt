@@ -28,7 +28,7 @@ use Rattle.cv_steps_laws.specs.renaming.Naming.{head_with_names, with_names, ind
 use Rattle.cv_steps_laws.proofs.renaming.Values.{AgreeUnder, first_under, second_under, tuple_under, fits_under, put_under, bound_under, value_under, values_under}
 use Rattle.cv_steps_laws.proofs.renaming.Candidates.{candidates_under}
 use Rattle.cv_meaning_runs.proofs.Replacement.{in_order_flat}
-use Rattle.cv_lists.proofs.Each.{AllByRecursion_trivial}
+use Rattle.cv_syntax_trees.proofs.lists.Each.{AllByRecursion_trivial}
 
 -- memories of both runs
 pub record AreLikeMemories (name : ℕ → ℕ) (m n : Memory) : Type 0 where

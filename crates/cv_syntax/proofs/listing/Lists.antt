@@ -10,7 +10,7 @@ use Rattle.cv_syntax.specs.declared.make.Make.TheVariants as make
 use Rattle.cv_syntax.specs.Planting.{overs}
 use Rattle.cv_syntax.specs.Postorder.{postorder}
 use Rattle.cv_syntax_trees.specs.Tree.{Tree, Empty, Node}
-use Rattle.cv_lists.proofs.Numbers.{below_or_not}
+use Rattle.cv_syntax_trees.proofs.lists.Numbers.{below_or_not}
 
 pub overs_append : (xs ys : List Make) → overs (xs ++ ys) ≡ overs xs + overs ys
 overs_append [] ys = omega arith

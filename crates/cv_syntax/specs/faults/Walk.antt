@@ -3,7 +3,7 @@ use Rattle.std.specs.Prelude.{◌≡◌, ◌≤◌, ℕ, Option, Some, None}
 use Rattle.std.specs.Option.{IfSome}
 use Rattle.cv_syntax_trees.specs.declared.head.Head.{Head}
 use Rattle.cv_syntax_trees.specs.Tree.{Tree, Empty, Node, first_place, second_place}
-pub use Rattle.cv_lists.specs.Options.{first_of}
+pub use Rattle.cv_syntax_trees.specs.lists.Options.{first_of}
 
 -- A walk: states that are inherited, and kinds of fault.
 pub record Walk (State Fault : Type 0) : Type 1 where

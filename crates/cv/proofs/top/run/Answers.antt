@@ -1,4 +1,4 @@
-use Rattle.cv_lists.proofs.Options.{IfSome_weaker}
+use Rattle.cv_syntax_trees.proofs.lists.Options.{IfSome_weaker}
 use Rattle.cv.specs.Words.{asked_by, bytes_asked, command_of}
 use Rattle.cv.proofs.Endings.{ends_well}
 use Rattle.cv.proofs.Writing.{by_sink, ends_either, kept_answers, kept_calls, kept_cause, kept_close, kept_complete, kept_sound, kept_steps, kept_words}

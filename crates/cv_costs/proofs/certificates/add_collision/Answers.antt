@@ -1,7 +1,7 @@
 use Rattle.std.proofs.Common.{[], Some, ap, arith, length, sym, ◌++◌, ◌∙◌}
 use Rattle.cv_syntax.specs.Declarations.{declarations}
 use Rattle.cv_syntax.specs.PoolTrees.{tree_at}
-use Rattle.cv_directory_sorts.specs.Sites.{first_site}
+use Rattle.cv_syntax_trees.specs.sites.Sites.{first_site}
 use Rattle.cv_scope_rules.specs.typing.Signature.{variable_in, variable_sort}
 use Rattle.cv_costs.specs.Copies.{parameters_by}
 use Rattle.cv_costs.proofs.CertificateCosts.{priced}

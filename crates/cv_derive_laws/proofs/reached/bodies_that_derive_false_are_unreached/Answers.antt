@@ -6,7 +6,7 @@ use Rattle.cv_derive_laws.specs.stores.Holding.{HoldAtFind, HoldAtVisit}
 use Rattle.cv_derive_laws.specs.stores.Unreached.{HasNoneAt, IsElsewhere}
 use Rattle.cv_derive_laws.proofs.reached.Targets.{elsewhere, none_at}
 use Rattle.cv_derive_laws.proofs.reached.bodies_that_derive_false_are_unreached.Goals as goal
-use Rattle.cv_lists.proofs.Each.{AllByRecursion_weaker}
+use Rattle.cv_syntax_trees.proofs.lists.Each.{AllByRecursion_weaker}
 
 pub returns-clause-visits : goal.returns-clause-visits
 returns-clause-visits c = λ s q by ready d i model m a.

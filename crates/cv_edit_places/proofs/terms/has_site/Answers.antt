@@ -1,10 +1,10 @@
 use Rattle.std.proofs.Common.{ap, ◌∙◌}
 use Rattle.std.specs.Prelude.{is_some, length}
-use Rattle.cv_directory_sorts.specs.Sites.{Variable}
+use Rattle.cv_syntax_trees.specs.sites.Sites.{Variable}
 use Rattle.cv_scope_rules.specs.typing.Signature.{variable_in}
 use Rattle.cv_typing.specs.Tables.{arrays_of}
 use Rattle.cv_edit_places.proofs.terms.has_site.Goals as goal
-use Rattle.cv_lists.proofs.Options.{is_some_map}
+use Rattle.cv_syntax_trees.proofs.lists.Options.{is_some_map}
 
 pub returns : goal.returns
 returns c =

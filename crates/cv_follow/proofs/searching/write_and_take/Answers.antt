@@ -1,7 +1,6 @@
 use Rattle.std.proofs.Common.{ap, arith, length, refl, subst, sym}
-use Rattle.cv_pool.proofs.Growth.{Grows_trans}
+use Rattle.cv_pool.proofs.Growth.{Grows_trans, Grows_same}
 use Rattle.cv_report.specs.declared.report.Which.TheVariants.{Pool}
-use Rattle.cv_follow.proofs.Growing.{Grows_same}
 use Rattle.cv_syntax.specs.declared.work.Work.{Work}
 use Rattle.cv_syntax.specs.limits.Limits.{nodes_of}
 use Rattle.cv_script.specs.Views.{items_of_step}

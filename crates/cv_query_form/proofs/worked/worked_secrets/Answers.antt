@@ -1,5 +1,5 @@
 use Rattle.std.proofs.Common.{refl}
-use Rattle.cv_directory_sorts.specs.Sites.{first_site, bound_sort}
+use Rattle.cv_syntax_trees.specs.sites.Sites.{first_site, bound_sort}
 use Rattle.cv_query_form.specs.Tests.{are_distinct, count_of, first_refused, is_left_event, passes, some_is_marked}
 use Rattle.cv_query_form.proofs.worked.worked_secrets.Goals as goal
 

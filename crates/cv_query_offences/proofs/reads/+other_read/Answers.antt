@@ -1,5 +1,5 @@
 use Rattle.std.proofs.Common.{rules, false, not, ◌&&◌, ◌+◌, ◌<◌, arith, ap, length, refl, sym, ◌∙◌}
-use Rattle.cv_lists.specs.Options.{first_of}
+use Rattle.cv_syntax_trees.specs.lists.Options.{first_of}
 use Rattle.cv_syntax_trees.specs.Tree.{first_place, second_place, size}
 use Rattle.cv_syntax.specs.PoolTrees.{tree_at}
 use Rattle.cv_syntax.specs.Walks.{above}

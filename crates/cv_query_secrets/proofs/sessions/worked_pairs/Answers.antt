@@ -3,8 +3,8 @@ use Rattle.std.proofs.lemmas.Bool.{both_ways}
 use Rattle.cv_syntax.specs.faults.Walk.{first_fault}
 use Rattle.cv_syntax_trees.specs.Tree.{reads_only, same_tree, size, subtree}
 use Rattle.cv_meaning.specs.Queries.{queries_in}
-use Rattle.cv_directory_sorts.specs.Counting as counting
-use Rattle.cv_directory_sorts.specs.Sites.{bound_sort, first_index, first_site}
+use Rattle.cv_syntax_trees.specs.sites.Counting as counting
+use Rattle.cv_syntax_trees.specs.sites.Sites.{bound_sort, first_index, first_site}
 use Rattle.cv_scope_rules.specs.Above.{standing_at}
 use Rattle.cv_scope_rules.specs.Behind.{sites_in}
 use Rattle.cv_scope_rules.specs.Context.{context_at}

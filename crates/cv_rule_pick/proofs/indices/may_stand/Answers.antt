@@ -1,6 +1,6 @@
 use Rattle.std.proofs.Common.{ap, ap₂, ◌∙◌}
 use Rattle.cv_syntax.specs.Declarations.{declarations}
-use Rattle.cv_directory_sorts.specs.declared.sort.Sort.TheVariants.{BelowParameter}
+use Rattle.cv_syntax_trees.specs.declared.sites.sort.Sort.TheVariants.{BelowParameter}
 use Rattle.cv_scope_rules.specs.typing.Signature as signature
 use Rattle.cv_scope_rules.specs.typing.Signature.{Above, sort_of}
 use Rattle.cv_scene.specs.Terms.{is_sort}

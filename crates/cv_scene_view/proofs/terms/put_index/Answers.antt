@@ -1,4 +1,4 @@
-use Rattle.cv_directory_sorts.specs.declared.sort.Sort.TheVariants.{BelowParameter}
+use Rattle.cv_syntax_trees.specs.declared.sites.sort.Sort.TheVariants.{BelowParameter}
 use Rattle.cv_typing.proofs.Removals.{inserted}
 use Rattle.cv_scene_view.proofs.terms.put_index.Goals as goal
 

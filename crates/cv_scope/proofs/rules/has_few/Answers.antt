@@ -1,8 +1,8 @@
 use Rattle.std.proofs.Common.{◌≤◌, ◌<◌, sym, arith}
 use Rattle.std.proofs.lemmas.Bool.{le-ltb, lt-ltb}
 use Rattle.cv_syntax.specs.PoolTrees.{tree_at}
-use Rattle.cv_directory_sorts.specs.Counting.{count}
-use Rattle.cv_directory_sorts.proofs.Counting.{count_end, count_step}
+use Rattle.cv_syntax_trees.specs.sites.Counting.{count}
+use Rattle.cv_syntax_trees.proofs.sites.Counting.{count_end, count_step}
 use Rattle.cv_syntax.proofs.Trees.{child_live, empty_at, node_at}
 use Rattle.cv_scope.proofs.rules.has_few.Goals as goal
 

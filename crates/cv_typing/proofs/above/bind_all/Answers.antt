@@ -1,6 +1,6 @@
 use Rattle.std.proofs.Common.{length, ap, sym, ◌∙◌}
 use Rattle.cv_syntax.specs.PoolTrees.{tree_at}
-use Rattle.cv_directory_sorts.specs.Sites.{binder_sort}
+use Rattle.cv_syntax_trees.specs.sites.Sites.{binder_sort}
 use Rattle.cv_typing.specs.Tables.{above_of}
 use Rattle.cv_scope_rules.specs.typing.Wants.{all_bound, bound}
 use Rattle.cv_typing.proofs.Removals.{bound_end, bound_skip, bound_step}

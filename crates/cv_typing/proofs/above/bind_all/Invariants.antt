@@ -2,7 +2,7 @@ use Rattle.std.proofs.Common.{◌≡◌, length}
 use Rattle.cv_pool.specs.Nodes.{ChildBelow}
 use Rattle.cv_syntax.specs.PoolTrees.{tree_at}
 use Rattle.cv_syntax.specs.Walks.{above as rank}
-use Rattle.cv_directory_sorts.specs.Sites.{binder_sort}
+use Rattle.cv_syntax_trees.specs.sites.Sites.{binder_sort}
 use Rattle.cv_typing.specs.Tables.{above_of, restored}
 use Rattle.cv_scope_rules.specs.typing.Wants.{all_bound}
 use Rattle.cv_typing.proofs.above.bind_all.Given as goal

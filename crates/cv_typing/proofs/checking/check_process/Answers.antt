@@ -6,7 +6,7 @@ use Rattle.cv_syntax.specs.PoolTrees.{tree_at}
 use Rattle.cv_scope_rules.specs.declared.typing.form.Form.TheVariants.{InProcess}
 use Rattle.cv_scope_rules.specs.typing.Parts.{game_part}
 use Rattle.cv_scope_rules.specs.typing.Signature.{Above, OfGame}
-use Rattle.cv_directory_sorts.specs.Sites.{SitesView}
+use Rattle.cv_syntax_trees.specs.sites.Sites.{SitesView}
 use Rattle.cv_scope_rules.specs.typing.Typing.{first_fault}
 use Rattle.cv_scope_rules.specs.typing.Wants.{Run}
 use Rattle.cv_typing.proofs.Files.{nothing_bound, part_refused, part_step, parts_end}

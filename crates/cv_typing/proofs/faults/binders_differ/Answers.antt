@@ -1,8 +1,8 @@
 use Rattle.std.proofs.Common.{length, ap₂, sym, ◌∙◌}
 use Rattle.cv_syntax.specs.PoolTrees.{tree_at}
-use Rattle.cv_directory_sorts.specs.Sites.{binder_sort}
+use Rattle.cv_syntax_trees.specs.sites.Sites.{binder_sort}
 use Rattle.cv_typing.specs.Tables.{arrays_of}
-use Rattle.cv_directory_sorts.specs.Sorts.{differs_from}
+use Rattle.cv_syntax_trees.specs.sites.Sorts.{differs_from}
 use Rattle.cv_scope_rules.proofs.typing.Differences.{differ_end, differ_skip, differ_step, or_false, or_true}
 use Rattle.cv_syntax.proofs.Trees.{child_live, empty_at, node_at}
 use Rattle.cv_typing.proofs.faults.binders_differ.Goals as goal

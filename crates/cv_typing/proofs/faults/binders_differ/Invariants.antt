@@ -2,7 +2,7 @@ use Rattle.std.proofs.Common.{◌≡◌, length}
 use Rattle.cv_pool.specs.Nodes.{ChildBelow}
 use Rattle.cv_syntax.specs.PoolTrees.{tree_at}
 use Rattle.cv_syntax.specs.Walks.{above}
-use Rattle.cv_directory_sorts.specs.Sites.{binder_sort}
+use Rattle.cv_syntax_trees.specs.sites.Sites.{binder_sort}
 use Rattle.cv_typing.specs.Tables.{arrays_of}
 use Rattle.cv_scope_rules.specs.typing.Typing.{binders_differ}
 use Rattle.cv_typing.proofs.faults.binders_differ.Given as goal

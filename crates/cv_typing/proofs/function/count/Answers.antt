@@ -1,7 +1,7 @@
 use Rattle.std.proofs.Common.{length, arith}
 use Rattle.cv_syntax.specs.PoolTrees.{tree_at}
 use Rattle.cv_syntax.proofs.Walking.{above_child, above_some}
-use Rattle.cv_directory_sorts.proofs.Counting.{count_end, count_step}
+use Rattle.cv_syntax_trees.proofs.sites.Counting.{count_end, count_step}
 use Rattle.cv_syntax.proofs.Trees.{child_live, empty_at, node_at}
 use Rattle.cv_typing.proofs.function.count.Goals as goal
 

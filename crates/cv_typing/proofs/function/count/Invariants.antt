@@ -2,7 +2,7 @@ use Rattle.std.proofs.Common.{◌≡◌, ◌≤◌, ◌+◌, ◌^◌, length}
 use Rattle.cv_pool.specs.Nodes.{ChildBelow}
 use Rattle.cv_syntax.specs.PoolTrees.{tree_at}
 use Rattle.cv_syntax.specs.Walks.{above}
-use Rattle.cv_directory_sorts.specs.Counting as counting
+use Rattle.cv_syntax_trees.specs.sites.Counting as counting
 use Rattle.cv_typing.proofs.function.count.Given as goal
 
 abbrev pub invariant-list : goal.invariant-list

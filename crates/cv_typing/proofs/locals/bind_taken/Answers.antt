@@ -1,6 +1,6 @@
 use Rattle.std.proofs.Common.{ap, ap₂, ◌∙◌}
 use Rattle.cv_scope_rules.specs.declared.typing.precedence.Precedence.TheVariants.{Newest}
-use Rattle.cv_directory_sorts.specs.declared.sort.Sort.TheVariants.{OfType}
+use Rattle.cv_syntax_trees.specs.declared.sites.sort.Sort.TheVariants.{OfType}
 use Rattle.cv_scope_rules.specs.typing.Signature.{Above}
 use Rattle.cv_scope_rules.specs.typing.Wants.{all_bound}
 use Rattle.cv_typing.proofs.locals.bind_taken.Goals as goal

@@ -1,7 +1,7 @@
 use Rattle.std.proofs.Common.{ap, ◌∙◌}
 use Rattle.cv_syntax.specs.PoolTrees.{tree_at}
 use Rattle.cv_scope_rules.specs.declared.typing.precedence.Precedence.TheVariants.{Newest}
-use Rattle.cv_directory_sorts.specs.declared.sort.Sort.TheVariants.{OfType}
+use Rattle.cv_syntax_trees.specs.declared.sites.sort.Sort.TheVariants.{OfType}
 use Rattle.cv_scope_rules.specs.typing.Parts.{with_taken}
 use Rattle.cv_scope_rules.specs.typing.Signature.{Above}
 use Rattle.cv_scope_rules.specs.typing.Wants.{all_bound}

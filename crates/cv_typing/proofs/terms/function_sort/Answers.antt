@@ -1,6 +1,6 @@
 use Rattle.std.proofs.Common.{ap, sym, ◌∙◌}
 use Rattle.std.specs.Prelude.{option_map}
-use Rattle.cv_directory_sorts.specs.declared.sort.Sort.TheVariants.{OfType}
+use Rattle.cv_syntax_trees.specs.declared.sites.sort.Sort.TheVariants.{OfType}
 use Rattle.cv_typing.specs.Lookups.{function_at}
 use Rattle.cv_scope_rules.specs.typing.Signature.{Function}
 use Rattle.cv_typing.proofs.Bridges.{function_same}

@@ -1,10 +1,10 @@
 use Rattle.std.proofs.Common.{refl, Option, ap, ap₂, sym, ◌∙◌}
 use Rattle.std.specs.Prelude.{option_map}
 use Rattle.std.specs.Option.{option_copied}
-use Rattle.cv_directory_sorts.specs.declared.sort.Sort.{Sort}
-use Rattle.cv_directory_sorts.specs.declared.sort.Sort.TheVariants.{BelowParameter}
+use Rattle.cv_syntax_trees.specs.declared.sites.sort.Sort.{Sort}
+use Rattle.cv_syntax_trees.specs.declared.sites.sort.Sort.TheVariants.{BelowParameter}
 use Rattle.cv_typing.specs.Lookups.{signature_in}
-use Rattle.cv_directory_sorts.specs.Sites.{first_of}
+use Rattle.cv_syntax_trees.specs.sites.Sites.{first_of}
 use Rattle.cv_typing.specs.Tables.{above_of, arrays_of}
 use Rattle.cv_scope_rules.specs.typing.Signature.{index_in}
 use Rattle.cv_scope_rules.proofs.typing.Leaves.{leaf_declared}

@@ -4,7 +4,7 @@ use Rattle.cv_syntax.specs.PoolTrees.{tree_at}
 use Rattle.cv_syntax.specs.Walks.{above as rank}
 use Rattle.cv_syntax.proofs.Walking.{above_child, above_some, size_at, size_end}
 use Rattle.cv_directory.specs.Definitions.{definitions_at, large_in, replications_below}
-use Rattle.cv_directory_sorts.specs.Sites.{index_here}
+use Rattle.cv_syntax_trees.specs.sites.Sites.{index_here}
 use Rattle.cv_directory.specs.Tables.{entries_in, untyped_of, with_entries}
 use Rattle.cv_directory.proofs.Entries.{below_other, gather_step, tree_end}
 use Rattle.cv_syntax.proofs.Trees.{child_above, child_live, empty_at, node_at}

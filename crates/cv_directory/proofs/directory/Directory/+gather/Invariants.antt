@@ -4,7 +4,7 @@ use Rattle.cv_syntax_trees.specs.Tree.{size}
 use Rattle.cv_syntax.specs.PoolTrees.{tree_at}
 use Rattle.cv_syntax.specs.Walks.{above}
 use Rattle.cv_directory.specs.Definitions.{definitions_from, large_in}
-use Rattle.cv_directory_sorts.specs.Sites.{first_index, is_untyped_in}
+use Rattle.cv_syntax_trees.specs.sites.Sites.{first_index, is_untyped_in}
 use Rattle.cv_directory.specs.Tables.{entries_in, untyped_of, with_entries}
 use Rattle.cv_directory.proofs.directory.Directory.+gather.Given as goal
 

@@ -1,7 +1,7 @@
 use Rattle.std.proofs.Common.{length, Some, ap, sym, ◌∙◌}
 use Rattle.cv_syntax.specs.PoolTrees.{tree_at}
 use Rattle.cv_directory.specs.Definitions.{bound_definitions}
-use Rattle.cv_directory_sorts.specs.Sites.{binder_sort}
+use Rattle.cv_syntax_trees.specs.sites.Sites.{binder_sort}
 use Rattle.cv_directory.specs.Tables.{entries_in, no_index, with_entries}
 use Rattle.cv_directory.proofs.Entries.{binders_end, binders_skip, binders_step}
 use Rattle.cv_syntax.proofs.Trees.{child_live, empty_at, node_at}

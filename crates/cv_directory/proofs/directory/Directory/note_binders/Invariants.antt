@@ -3,7 +3,7 @@ use Rattle.cv_pool.specs.Nodes.{ChildBelow}
 use Rattle.cv_syntax.specs.PoolTrees.{tree_at}
 use Rattle.cv_syntax.specs.Walks.{above}
 use Rattle.cv_directory.specs.Definitions.{bound_definitions, is_other}
-use Rattle.cv_directory_sorts.specs.Sites.{binder_sort}
+use Rattle.cv_syntax_trees.specs.sites.Sites.{binder_sort}
 use Rattle.cv_directory.specs.Tables.{entries_in, no_index, with_entries}
 use Rattle.cv_directory.proofs.directory.Directory.note_binders.Given as goal
 

@@ -1,7 +1,7 @@
 use Rattle.std.proofs.Common.{Some, ap, is_some, nat_eq, ◌||◌, ◌∙◌}
 use Rattle.cv_syntax.specs.PoolTrees.{tree_at}
 use Rattle.cv_directory.specs.Definitions.{large_in}
-use Rattle.cv_directory_sorts.specs.Sites.{is_untyped_in}
+use Rattle.cv_syntax_trees.specs.sites.Sites.{is_untyped_in}
 use Rattle.cv_directory.specs.Tables.{entries_in}
 use Rattle.cv_directory.proofs.Entries.{from_nothing}
 use Rattle.cv_directory.proofs.Noting.{nothing_yet, seen_sites}

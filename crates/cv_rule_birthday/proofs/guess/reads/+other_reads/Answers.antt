@@ -5,7 +5,7 @@ use Rattle.cv_syntax.specs.PoolTrees.{tree_at}
 use Rattle.cv_syntax.specs.Walks.{above}
 use Rattle.cv_syntax.proofs.Trees.{child_above, child_live, empty_at, node_at}
 use Rattle.cv_syntax.proofs.Walking.{above_child, above_some, size_at, size_end}
-use Rattle.cv_lists.specs.Options.{first_of}
+use Rattle.cv_syntax_trees.specs.lists.Options.{first_of}
 use Rattle.cv_scene.specs.Scenes.{head_reads}
 use Rattle.cv_scene_view.specs.phrases.Phrases.{both, phrase_of}
 use Rattle.cv_steps.specs.Rewriting.{parts_of}

@@ -4,7 +4,7 @@ use Rattle.cv_syntax.specs.PoolTrees.{tree_at}
 use Rattle.cv_syntax.specs.Walks.{above}
 use Rattle.cv_syntax.proofs.Trees.{child_above, child_live, empty_at, node_at}
 use Rattle.cv_syntax.proofs.Walking.{above_child, above_some, size_at, size_end}
-use Rattle.cv_directory_sorts.specs.Sites.{first_of}
+use Rattle.cv_syntax_trees.specs.sites.Sites.{first_of}
 use Rattle.cv_syntax.specs.NameSets.{is_in}
 use Rattle.cv_scene_view.proofs.Tested.{reads_first, reads_here, reads_rest}
 use Rattle.cv_rule_move.specs.merge.Looks.{is_skipped}

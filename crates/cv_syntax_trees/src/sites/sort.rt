@@ -1,5 +1,5 @@
 ghost use Rattle.std.specs.Prelude.{◌≡◌};
-ghost use Rattle.cv_directory_sorts.specs.Sorts as sorts;
+ghost use Rattle.cv_syntax_trees.specs.sites.Sorts as sorts;
 
 /// What a term or a variable has as its values.
 #[derive(Clone, Copy, Debug, PartialEq, Eq)]
