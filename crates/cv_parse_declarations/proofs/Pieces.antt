@@ -2,12 +2,11 @@
 use Rattle.std.proofs.Common.{◌≡◌, ℕ, ◌-◌, ◌<◌, ◌≤◌, Bool, true, false, not, ◌||◌, List, [], ◌∷◌, ◌++◌, length, drop, refl, sym, arith, subst, length-drop, Result}
 use Rattle.cv_parse_notation.specs.declared.sign.Sign.{Sign}
 use Rattle.cv_parse_notation.specs.declared.sign.Mark.TheVariants as mark
-use Rattle.cv_parse_notation.specs.Form.{deeper, made}
 use Rattle.cv_parse_notation.specs.Spells.{AFind, AMark, ANumber, AWord, AnUnnamed, Kind, Zero, is_mark, kind_of, next_is, starts}
 use Rattle.cv_parse_notation.specs.Reads.{Read}
 use Rattle.cv_parse_notation.proofs.Sound.{same_mark_eq}
 use Rattle.cv_parse_grammar.specs.declared.role.Role.{Role}
-use Rattle.cv_parse_grammar.specs.Phrases.{Phrase, Sort}
+use Rattle.cv_parse_grammar.specs.Phrases.{Sort}
 use Rattle.cv_parse_grammar.specs.Rules.{heads, matched, rule}
 use Rattle.cv_parse_terms.specs.declared.lookahead.ReadError.{ReadError}
 use Rattle.cv_parse_terms.specs.Gives.{below, read_in}
@@ -42,9 +41,6 @@ piece_begins at all h = begins_here (drop at all) (omega (arith, length-drop at 
 pub ruleset pieces = (piece_begins, past_end)
 
 -- a piece
-
-abbrev within : Sort → Phrase (Unit {0})
-within s = made (λ _. tt) (deeper s)
 
 -- one level down
 pub passes_below : (all : List Sign) (r : Result ℕ ReadError) (n : ℕ) (s : Sort) (ts : List Sign) → 0 < n → PassesTree all r (read_in (n - 1) (rule s) ts) → PassesTree all r (below n s ts)

@@ -9,7 +9,7 @@ use Rattle.cv_syntax.specs.Postorder.{postorder}
 use Rattle.cv_syntax.specs.declared.make.Make.{Make}
 use Rattle.cv_syntax.specs.declared.make.Make.TheVariants.{Nothing, Over}
 use Rattle.cv_parse_notation.specs.declared.sign.Mark.TheVariants as mark
-use Rattle.cv_parse_notation.specs.Form.{word, may, many, deeper, ◌&◌, ◌▸◌, ◌◂◌}
+use Rattle.cv_parse_notation.specs.Form.{word, may, deeper, ◌&◌, ◌▸◌, ◌◂◌}
 use Rattle.cv_parse_grammar.specs.declared.role.Asked.TheVariants.{AnEquivalence, AProbability}
 use Rattle.cv_parse_grammar.specs.declared.role.Region.TheVariants.{InEquivalence}
 use Rattle.cv_parse_grammar.specs.declared.role.Role.TheVariants.{Asks, BindsBound, BindsLocal, Declares, Enters, Leaves}
@@ -162,7 +162,7 @@ says_functions : {n : ℕ} {s : Sort} (b i j : ℕ) → i < b → row_of b ≡ p
 says_functions {n = n} {s = s} b i j h e d k x =
     rw e (level_says b (ahead.Mark mark.Open) i h (λ k. refl) (rw d (between mark.Open mark.Close (piece.List closing.Trees mark.Bar j ∷ []) (list_says i closing.Trees mark.Bar j chain k chain_closes x))))
 
-says_key : (n : ℕ) → Says n 207 (row_of 207) (typed BindsLocal) (λ b. grows (binders (b ∷ [])))
+pub says_key : (n : ℕ) → Says n 207 (row_of 207) (typed BindsLocal) (λ b. grows (binders (b ∷ [])))
 says_key n =
     same_says (λ b. grows (binders (b ∷ []))) closes_one
     (pair_behind pairing.Binder (piece.Row 60 ∷ (piece.Part Nothing ∷ (piece.Part Nothing ∷ []))) (part_behind Nothing (piece.Row 60 ∷ (piece.Part Nothing ∷ [])) (part_behind Nothing (piece.Row 60 ∷ []) (row_says 207 60 (lit< tt) (says_local n)))))
@@ -190,7 +190,7 @@ says_right_group n d = says_group 209 206 (lit< tt) (lit< tt) (says_functions 20
 
 -- equivalences
 
-says_probability : (n : ℕ) → Says n 191 (row_of 191) probability waits
+pub says_probability : (n : ℕ) → Says n 191 (row_of 191) probability waits
 says_probability n =
     between mark.AtMost mark.Gives (piece.Level (ahead.Mark mark.Open) 190 ∷ [])
     (level_says 191 (ahead.Mark mark.Open) 190 (lit< tt) (λ k. refl) (between mark.Open mark.Close (piece.Word (Asks AProbability) ∷ []) (word_says n 190 (Asks AProbability))))

@@ -1,5 +1,4 @@
-pub mod Spines
-pub mod Listing
+pub mod Entries
 pub mod Faults
 pub mod Correspondences
 pub mod Listed

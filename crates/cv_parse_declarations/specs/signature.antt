@@ -1,4 +1,3 @@
 pub mod Declares
 pub mod Sides
 pub mod Kinds
-pub mod Spines

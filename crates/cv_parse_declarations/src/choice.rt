@@ -12,7 +12,6 @@ use crate::equivalences::equiv_decl;
 use crate::signature::{DeclarationKind, Heard, collision_decl, declare};
 use cv_parse_notation::{Mark, Sign};
 use cv_parse_terms::{ReadError, Trail, is_at, is_unnamed_at};
-use std::alloc::Global;
 
 /// Whether a collision begins at a place.
 #[tactic(auto, using(crate::proofs::Begins::collision_begins))]
@@ -25,7 +24,6 @@ fn begins_collision(signs: &[Sign], at: usize) -> bool
 /// A declaration of an equation, a collision, an equivalence or a query.
 #[tactic(auto, using(crate::proofs::Choices::choices))]
 fn last_decl(
-    alloc: Global,
     signs: &[Sign],
     at: usize,
     trail: &mut Trail,
@@ -41,7 +39,7 @@ fn last_decl(
         return declare(DeclarationKind::Equation, signs, at, trail, heard, depth);
     }
     if begins_collision(signs, at) {
-        return collision_decl(alloc, signs, at, trail, heard, depth);
+        return collision_decl(signs, at, trail, heard, depth);
     }
     if is_at(signs, at, Mark::Equiv) {
         return equiv_decl(signs, at, trail, heard, depth);
@@ -52,7 +50,6 @@ fn last_decl(
 /// A declaration of a type, of constants, of a function or of an event, or one of those behind them.
 #[tactic(auto, using(crate::proofs::Choices::choices))]
 fn next_decl(
-    alloc: Global,
     signs: &[Sign],
     at: usize,
     trail: &mut Trail,
@@ -76,13 +73,12 @@ fn next_decl(
     if is_at(signs, at, Mark::EventWord) {
         return declare(DeclarationKind::Event, signs, at, trail, heard, depth);
     }
-    last_decl(alloc, signs, at, trail, heard, depth)
+    last_decl(signs, at, trail, heard, depth)
 }
 
 /// A declaration.
 #[tactic(auto, using(crate::proofs::Choices::choices))]
 fn decl(
-    alloc: Global,
     signs: &[Sign],
     at: usize,
     trail: &mut Trail,
@@ -103,7 +99,7 @@ fn decl(
     if is_at(signs, at, Mark::Proba) {
         return declare(DeclarationKind::Probability, signs, at, trail, heard, depth);
     }
-    next_decl(alloc, signs, at, trail, heard, depth)
+    next_decl(signs, at, trail, heard, depth)
 }
 
 /// Whether a declaration begins at a place.
@@ -127,7 +123,6 @@ pub fn begins_decl(signs: &[Sign], at: usize) -> bool
 /// Declarations, as many as there are.
 #[tactic(auto, using(cv_parse_terms::proofs::Places::places))]
 pub fn decls(
-    alloc: Global,
     signs: &[Sign],
     at: usize,
     trail: &mut Trail,
@@ -141,7 +136,7 @@ pub fn decls(
 {
     let mut place = at;
     'decls: while begins_decl(signs, place) {
-        place = decl(alloc, signs, place, trail, heard, depth)?;
+        place = decl(signs, place, trail, heard, depth)?;
     }
     Ok(place)
 }

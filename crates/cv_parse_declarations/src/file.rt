@@ -72,7 +72,7 @@ pub fn read(alloc: Global, signs: &[Sign]) -> Result<Reading, ReadError>
     let mut trail = Trail::new(alloc);
     trail.uses.push(BUILT_IN)?;
     let mut heard = Vec::new(alloc);
-    let place = decls(alloc, signs, 0, &mut trail, &mut heard, DEPTH)?;
+    let place = decls(signs, 0, &mut trail, &mut heard, DEPTH)?;
     let (script, place) = maybe_proof(signs, place, &mut trail.uses, DEPTH)?;
     let Trail { uses, makes: trees } = trail;
     let mut rest = Trail {

@@ -1,11 +1,8 @@
 -- The rows of processes and terms make phrases of a game.
 use Rattle.std.proofs.Common.{◌≡◌, ℕ, Bool, true, not, [], ◌∷◌, Option, Some, None, refl}
-use Rattle.std.specs.List.{AllByRecursion}
 use Rattle.cv_syntax_trees.specs.Tree.{Tree, Empty}
-use Rattle.cv_parse_notation.specs.declared.sign.Mark.{Mark}
-use Rattle.cv_parse_notation.specs.Form.{Form, made, may}
+use Rattle.cv_parse_notation.specs.Form.{Form}
 use Rattle.cv_parse_grammar.specs.declared.role.Asked.TheVariants.{AParam}
-use Rattle.cv_parse_grammar.specs.declared.role.Region.{Region}
 use Rattle.cv_parse_grammar.specs.declared.role.Role.{Role}
 use Rattle.cv_parse_grammar.specs.declared.role.Role.TheVariants.{Asks, BindsVariable}
 use Rattle.cv_parse_grammar.specs.Phrases.{Sort, or_else, after, row, bracket, square, listed, typed, vars, indices, inside}
@@ -17,7 +14,8 @@ use Rattle.cv_scope_rules.specs.Phrases.{Phrase, Inputs, Body, Branches, Arm, In
 use Rattle.cv_parse_laws.specs.Shapes.{IsFree, IsOfSort, IsOver, IsShaped}
 use Rattle.cv_parse_grammar.specs.yields.Yields.{IfThere, Yields}
 use Rattle.cv_parse_laws.proofs.Shaping.{bound, chained, empty, named, nil, node}
-use Rattle.cv_parse_grammar.proofs.yields.Yielding.{Gives, a_word, anything, before, behind, below, follow, leveled, one_of, perhaps, several, turned, weaker}
+use Rattle.cv_parse_laws.proofs.roles.Forms.{Tail, after_is, bracketed, enclosed, in_row, or_this, squared}
+use Rattle.cv_parse_grammar.proofs.yields.Yielding.{Gives, a_word, anything, behind, below, follow, leveled, one_of, perhaps, several, turned, weaker}
 
 module _ (barred : ℕ → Bool) where
   abbrev Makes : {A : Type 0} → Form Role Sort A → (A → Type 0) → Type 0
@@ -28,34 +26,8 @@ module _ (barred : ℕ → Bool) where
 
   -- what rows are made of
 
-  in_row : {A : Type 0} {m : Mark} {f : Form Role Sort A} {p : A → Type 0} → Makes f p → Makes (row m f) (AllByRecursion p)
-  in_row i = turned (follow i (several (behind i))) (λ x w. w)
-
-  bracketed : {A : Type 0} {f : Form Role Sort A} {p : A → Type 0} → Makes f p → Makes (bracket f) p
-  bracketed i = leveled (behind (before i))
-
-  squared : {A : Type 0} {f : Form Role Sort A} {p : A → Type 0} → Makes f p → Makes (square f) p
-  squared i = leveled (behind (before i))
-
-  enclosed : {A : Type 0} {r : Region} {f : Form Role Sort A} {p : A → Type 0} → Makes f p → Makes (inside r f) p
-  enclosed i = turned (follow anything (follow i anything)) (λ x w. w.1.0)
-
-  else_is : {A : Type 0} (p : A → Type 0) (a : A) → p a → (o : Option A) → IfThere p o → p (or_else a o)
-  else_is p a w None v = w
-  else_is p a w (Some b) v = v
-
-  or_this : {A : Type 0} {near : Bool} {f : Form Role Sort A} {p : A → Type 0} (a : A) → p a → Makes f p → Makes (made (or_else a) (may near f)) p
-  or_this {p = p} a w i = turned (perhaps i) (else_is p a w)
-
   in_list : {φ : Phrase} {f : Form Role Sort Tree} → may_end φ ≡ true → Makes f (Is φ) → Makes (listed f) (Is φ)
   in_list e i = or_this Empty (empty e) i
-
-  abbrev Tail : Phrase → (Tree → Tree) → Type 0
-  Tail φ f = (t : Tree) → Is φ t → Is φ (f t)
-
-  after_is : (φ : Phrase) (t : Tree) → Is φ t → (o : Option (Tree → Tree)) → IfThere (Tail φ) o → Is φ (after t o)
-  after_is φ t w None v = w
-  after_is φ t w (Some f) v = v t w
 
   -- binders
 
@@ -119,26 +91,26 @@ module _ (barred : ℕ → Bool) where
   of_unequal : Makes unequal (Is Term)
   of_unequal = leveled (behind below)
 
-  of_equal_to : Makes equal_to (Tail Term)
+  of_equal_to : Makes equal_to (Tail (Is Term))
   of_equal_to = turned (follow anything below) (λ r w l v. node refl refl v w.1)
 
-  of_unequal_to : Makes unequal_to (Tail Term)
+  of_unequal_to : Makes unequal_to (Tail (Is Term))
   of_unequal_to = turned below (λ r w l v. node refl refl (node refl refl v w) nil)
 
   of_equality : Makes equality (Is Term)
-  of_equality = turned (follow of_primary (perhaps (one_of of_equal_to of_unequal_to))) (λ x w. after_is Term x.0 w.0 x.1 w.1)
+  of_equality = turned (follow of_primary (perhaps (one_of of_equal_to of_unequal_to))) (λ x w. after_is (Is Term) x.0 w.0 x.1 w.1)
 
-  of_conjoined : Makes conjoined (Tail Term)
+  of_conjoined : Makes conjoined (Tail (Is Term))
   of_conjoined = turned (follow anything below) (λ r w l v. node refl refl v w.1)
 
   of_conjunction : Makes conjunction (Is Term)
-  of_conjunction = turned (follow of_equality (perhaps of_conjoined)) (λ x w. after_is Term x.0 w.0 x.1 w.1)
+  of_conjunction = turned (follow of_equality (perhaps of_conjoined)) (λ x w. after_is (Is Term) x.0 w.0 x.1 w.1)
 
-  of_disjoined : Makes disjoined (Tail Term)
+  of_disjoined : Makes disjoined (Tail (Is Term))
   of_disjoined = turned (follow anything below) (λ r w l v. node refl refl v w.1)
 
   of_term : Makes term (Is Term)
-  of_term = turned (follow of_conjunction (perhaps of_disjoined)) (λ x w. after_is Term x.0 w.0 x.1 w.1)
+  of_term = turned (follow of_conjunction (perhaps of_disjoined)) (λ x w. after_is (Is Term) x.0 w.0 x.1 w.1)
 
   cell_is : (x : ℕ) (o : Option Tree) → IfThere (Is Terms) o → Is OneCell (cell_of x o)
   cell_is x None w = node refl refl nil nil
@@ -177,11 +149,11 @@ module _ (barred : ℕ → Bool) where
   of_input : Makes input (Is Inputs)
   of_input = one_of of_ending (one_of (bracketed below) (one_of of_replication of_receiving))
 
-  of_beside : Makes beside (Tail Inputs)
+  of_beside : Makes beside (Tail (Is Inputs))
   of_beside = turned (follow anything below) (λ r w l v. node refl refl v w.1)
 
   of_inputs : Makes inputs (Is Inputs)
-  of_inputs = turned (follow of_input (perhaps of_beside)) (λ x w. after_is Inputs x.0 w.0 x.1 w.1)
+  of_inputs = turned (follow of_input (perhaps of_beside)) (λ x w. after_is (Is Inputs) x.0 w.0 x.1 w.1)
 
   -- a channel with its indices, and what goes over it
 

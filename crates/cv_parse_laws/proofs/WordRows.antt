@@ -5,9 +5,8 @@ use Rattle.std.specs.List.{AllByRecursion}
 use Rattle.cv_syntax_trees.specs.declared.head.Head.{Head}
 use Rattle.cv_syntax_trees.specs.Tree.{Tree, Empty, Node, binders, chain, lone, names}
 use Rattle.cv_parse_notation.specs.declared.sign.Mark.{Mark}
-use Rattle.cv_parse_notation.specs.Form.{Form, made, may}
+use Rattle.cv_parse_notation.specs.Form.{Form}
 use Rattle.cv_parse_grammar.specs.declared.role.Asked.TheVariants.{AParam}
-use Rattle.cv_parse_grammar.specs.declared.role.Region.{Region}
 use Rattle.cv_parse_grammar.specs.declared.role.Role.{Role}
 use Rattle.cv_parse_grammar.specs.declared.role.Role.TheVariants.{Asks, BindsVariable}
 use Rattle.cv_parse_grammar.specs.Phrases.{Sort, or_else, after, row, bracket, square, listed, typed, vars, indices, inside}
@@ -16,7 +15,8 @@ use Rattle.cv_parse_grammar.specs.Terms.{terms, arguments, subscript, parenthese
 use Rattle.cv_parse_grammar.specs.Processes.{stops, yields, channel, channel_indices, find_in, ending, replication, receiving, input, beside, inputs, received, pattern, variables, yielding, sent, sending, payload, continuation, outgoing, restriction, assignment, recording, otherwise, testing, finding, branch, output}
 use Rattle.cv_parse_grammar.specs.Rules.{file, rule}
 use Rattle.cv_parse_grammar.specs.yields.Yields.{IfThere, Yields}
-use Rattle.cv_parse_grammar.proofs.yields.Yielding.{Gives, a_word, anything, before, behind, below, follow, leveled, one_of, perhaps, several, turned, weaker}
+use Rattle.cv_parse_laws.proofs.roles.Forms.{Tail, after_is, bracketed, enclosed, or_this, squared}
+use Rattle.cv_parse_grammar.proofs.yields.Yielding.{Gives, a_word, anything, behind, below, follow, leveled, one_of, perhaps, several, turned, weaker}
 use Rattle.cv_print_bytes.specs.terminals.Written.{has_items, has_parameters, head_is_written, is_name, is_written}
 use Rattle.cv_parse_laws.specs.Words.{GoesOver, HasItems, HasWords, WordsOfSort}
 
@@ -81,31 +81,8 @@ record Several {A : Type 0} (p : A → Type 0) (l : List A) : Type 0 where
 in_row : {A : Type 0} {m : Mark} {f : Form Role Sort A} {p : A → Type 0} → Makes f p → Makes (row m f) (Several p)
 in_row i = turned (follow i (several (behind i))) (λ x w. record { all = w; some = refl })
 
-bracketed : {A : Type 0} {f : Form Role Sort A} {p : A → Type 0} → Makes f p → Makes (bracket f) p
-bracketed i = leveled (behind (before i))
-
-squared : {A : Type 0} {f : Form Role Sort A} {p : A → Type 0} → Makes f p → Makes (square f) p
-squared i = leveled (behind (before i))
-
-enclosed : {A : Type 0} {r : Region} {f : Form Role Sort A} {p : A → Type 0} → Makes f p → Makes (inside r f) p
-enclosed i = turned (follow anything (follow i anything)) (λ x w. w.1.0)
-
-pub else_is : {A : Type 0} (p : A → Type 0) (a : A) → p a → (o : Option A) → IfThere p o → p (or_else a o)
-else_is p a w None v = w
-else_is p a w (Some b) v = v
-
-or_this : {A : Type 0} {near : Bool} {f : Form Role Sort A} {p : A → Type 0} (a : A) → p a → Makes f p → Makes (made (or_else a) (may near f)) p
-or_this {p = p} a w i = turned (perhaps i) (else_is p a w)
-
 in_list : {f : Form Role Sort Tree} → Makes f HasWords → Makes (listed f) HasWords
 in_list i = or_this Empty empty_words i
-
-abbrev Tail : (Tree → Tree) → Type 0
-Tail k = (t : Tree) → HasWords t → HasWords (k t)
-
-after_is : (t : Tree) → HasWords t → (o : Option (Tree → Tree)) → IfThere Tail o → HasWords (after t o)
-after_is t w None v = w
-after_is t w (Some f) v = v t w
 
 -- binders
 
@@ -173,26 +150,26 @@ of_primary = one_of of_mention (one_of of_negation (one_of of_truth (one_of of_f
 of_unequal : Makes unequal HasWords
 of_unequal = leveled (behind below)
 
-of_equal_to : Makes equal_to Tail
+of_equal_to : Makes equal_to (Tail HasWords)
 of_equal_to = turned (follow anything below) (λ r w l v. node_words refl v w.1)
 
-of_unequal_to : Makes unequal_to Tail
+of_unequal_to : Makes unequal_to (Tail HasWords)
 of_unequal_to = turned below (λ r w l v. node_words refl (node_words refl v w) empty_words)
 
 of_equality : Makes equality HasWords
-of_equality = turned (follow of_primary (perhaps (one_of of_equal_to of_unequal_to))) (λ x w. after_is x.0 w.0 x.1 w.1)
+of_equality = turned (follow of_primary (perhaps (one_of of_equal_to of_unequal_to))) (λ x w. after_is HasWords x.0 w.0 x.1 w.1)
 
-of_conjoined : Makes conjoined Tail
+of_conjoined : Makes conjoined (Tail HasWords)
 of_conjoined = turned (follow anything below) (λ r w l v. node_words refl v w.1)
 
 of_conjunction : Makes conjunction HasWords
-of_conjunction = turned (follow of_equality (perhaps of_conjoined)) (λ x w. after_is x.0 w.0 x.1 w.1)
+of_conjunction = turned (follow of_equality (perhaps of_conjoined)) (λ x w. after_is HasWords x.0 w.0 x.1 w.1)
 
-of_disjoined : Makes disjoined Tail
+of_disjoined : Makes disjoined (Tail HasWords)
 of_disjoined = turned (follow anything below) (λ r w l v. node_words refl v w.1)
 
 of_term : Makes term HasWords
-of_term = turned (follow of_conjunction (perhaps of_disjoined)) (λ x w. after_is x.0 w.0 x.1 w.1)
+of_term = turned (follow of_conjunction (perhaps of_disjoined)) (λ x w. after_is HasWords x.0 w.0 x.1 w.1)
 
 cell_is : (x : ℕ) → is_name x ≡ true → (o : Option Tree) → IfThere HasItems o → HasWords (cell_of x o)
 cell_is x e None w = alone_words e
@@ -231,11 +208,11 @@ of_receiving = leveled (turned (behind (follow below (behind below))) (λ x w. n
 of_input : Makes input HasWords
 of_input = one_of of_ending (one_of (bracketed below) (one_of of_replication of_receiving))
 
-of_beside : Makes beside Tail
+of_beside : Makes beside (Tail HasWords)
 of_beside = turned (follow anything below) (λ r w l v. node_words refl v w.1)
 
 of_inputs : Makes inputs HasWords
-of_inputs = turned (follow of_input (perhaps of_beside)) (λ x w. after_is x.0 w.0 x.1 w.1)
+of_inputs = turned (follow of_input (perhaps of_beside)) (λ x w. after_is HasWords x.0 w.0 x.1 w.1)
 
 -- a channel with its indices, and what goes over it
 

@@ -18,15 +18,8 @@ use Rattle.cv_parse_grammar.specs.Processes.{assignment, beside, branch, channel
 use Rattle.cv_parse_grammar.specs.Rules.{heads, rule}
 use Rattle.cv_parse_grammar.specs.yields.Yields.{IfThere}
 use Rattle.cv_parse_sorts.proofs.Calls.{AllSay, Gives, Says, Tells, anything, at_back, behind, bracketed, follow, in_row, leveled, one_of, or_this, perhaps, several, squared, turned, weaker}
+use Rattle.cv_parse_laws.proofs.roles.Forms.{Tail, after_is}
 use Rattle.cv_parse_sorts.proofs.NamedTrees.{AreCells, HasNamed, IsCell, NamesHere}
-
--- what a tail makes of what has the property has it
-abbrev Tail : (Tree → Type 0) → (Tree → Tree) → Type 0
-Tail p f = (t : Tree) → p t → p (f t)
-
-after_is : (p : Tree → Type 0) (t : Tree) → p t → (o : Option (Tree → Tree)) → IfThere (Tail p) o → p (after t o)
-after_is p t w None v = w
-after_is p t w (Some f) v = v t w
 
 module _ (F V : ℕ → Type 0) where
   pub record Is (t : Tree) : Type 0 where

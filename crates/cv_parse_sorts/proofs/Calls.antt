@@ -1,5 +1,5 @@
 -- What is spelled has what the rules of names say of the uses of names in it, where a call is told from a mention.
-use Rattle.std.proofs.Common.{◌≡◌, ℕ, Bool, true, false, List, [], ◌∷◌, ◌++◌, Option, Some, None, inl, inr, refl, subst}
+use Rattle.std.proofs.Common.{◌≡◌, ℕ, Bool, true, false, List, [], ◌∷◌, ◌++◌, Some, None, inl, inr, refl, subst}
 use Rattle.std.proofs.lemmas.Bool.{both_ways}
 use Rattle.std.specs.List.{AllByRecursion}
 use Rattle.cv_syntax_trees.specs.Tree.{Tree}
@@ -13,7 +13,7 @@ use Rattle.cv_parse_grammar.specs.Names.{Uses, as_call}
 use Rattle.cv_parse_grammar.specs.Phrases.{Phrase, Sort, or_else, row, bracket, square}
 use Rattle.cv_parse_grammar.specs.Rules.{heads}
 use Rattle.cv_parse_grammar.specs.yields.Yields.{IfThere}
-use Rattle.cv_parse_laws.proofs.WordRows.{else_is}
+use Rattle.cv_parse_laws.proofs.roles.Forms.{else_is}
 
 module _ (F V : ℕ → Type 0) where
   -- of a use and those behind it: what is called is a function, the variable of a cell is a variable

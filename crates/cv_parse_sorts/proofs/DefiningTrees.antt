@@ -1,12 +1,11 @@
 -- Trees that define a variable have a site of it, and filling keeps their definitions.
 use Rattle.std.proofs.Common.{◌≡◌, ℕ, Bool, true, false, cond, ◌==◌, List, ◌⊎◌, inl, inr, Option, Some, None, is_some, refl, ap, eq-eqb}
-use Rattle.std.proofs.lemmas.Bool.{both_ways}
 use Rattle.cv_syntax_trees.specs.declared.head.Head.{Head}
 use Rattle.cv_syntax_trees.specs.declared.head.Head.TheVariants.{Binder, Branch, Cons, In, Leaf, Let, New, Out}
 use Rattle.cv_syntax_trees.specs.Tree.{Tree, Empty, Node, second}
 use Rattle.cv_syntax_trees.specs.declared.sites.sort.Sort.{Sort}
 use Rattle.cv_syntax_trees.specs.declared.sites.sort.Sort.TheVariants.{BelowParameter, OfType}
-use Rattle.cv_syntax_trees.specs.sites.Sites.{at_parameters, bound_sort, first_of, first_site, parameters_below, site_here}
+use Rattle.cv_syntax_trees.specs.sites.Sites.{at_parameters, bound_sort, first_site, parameters_below, site_here}
 use Rattle.cv_parse_grammar.specs.Filled.{filled_at, now_below, on_channel}
 use Rattle.cv_scope_runs.proofs.Games.{first_some, second_some, with_parameters}
 

@@ -1,6 +1,6 @@
 -- The bare names of an equation are its own variables or declared functions, by the rules of names.
 use Rattle.std.proofs.Common.{◌≡◌, ℕ, Bool, true, false, ◌==◌, ◌&&◌, ◌||◌, not, List, [], ◌∷◌, ◌++◌, append_assoc, length, map, ◌⊎◌, inl, inr, Option, Some, None, refl, ap, sym, subst, ◌∙◌}
-use Rattle.std.proofs.lemmas.Bool.{and_parts, both_ways, or_cases, or_left, or_right}
+use Rattle.std.proofs.lemmas.Bool.{and_parts, both_ways, or_cases, or_left}
 use Rattle.std.proofs.lemmas.List.Folds.{list_any-append}
 use Rattle.std.specs.List.{AllByRecursion}
 use Rattle.cv_syntax_trees.proofs.lists.Each.{AllByRecursion_append, AllByRecursion_flat_map, AllByRecursion_left}
@@ -8,18 +8,15 @@ use Rattle.cv_syntax_trees.specs.declared.class.Class.{Class}
 use Rattle.cv_syntax_trees.specs.declared.head.Head.TheVariants.{Forall}
 use Rattle.cv_syntax_trees.specs.Declarations.{Declaration, Equation}
 use Rattle.cv_syntax_trees.specs.Tree.{Tree, Node, binders, bound_names}
-use Rattle.cv_parse_notation.specs.declared.sign.Mark.TheVariants as mark
 use Rattle.cv_parse_notation.specs.declared.sign.Sign.{Sign}
-use Rattle.cv_parse_notation.specs.Form.{Form, ◌▸◌}
 use Rattle.cv_parse_notation.specs.Spells.{Each, IsSort, Relation, Spells, Use, starts}
 use Rattle.cv_parse_grammar.specs.declared.role.Asked.TheVariants.{AFunction}
-use Rattle.cv_parse_grammar.specs.declared.role.Region.{Region}
 use Rattle.cv_parse_grammar.specs.declared.role.Region.TheVariants.{InEquation}
 use Rattle.cv_parse_grammar.specs.declared.role.Role.{Role}
-use Rattle.cv_parse_grammar.specs.declared.role.Role.TheVariants.{Asks, BindsLocal, Mentions, AsCall, AsArray, AsBare, Enters}
+use Rattle.cv_parse_grammar.specs.declared.role.Role.TheVariants.{Mentions, AsCall, AsArray, AsBare}
 use Rattle.cv_parse_grammar.specs.Declarations.{constant, declaration, equation_decl, forall_vars, named}
 use Rattle.cv_parse_grammar.specs.Files.{levels}
-use Rattle.cv_parse_grammar.specs.Names.{Uses, as_bare, as_call, binds, declares_as, is_function, is_own, is_used, known_in, obeys, own_from, part_after, part_from, since}
+use Rattle.cv_parse_grammar.specs.Names.{Uses, as_bare, as_call, binds, declares_as, is_function, is_own, is_used, known_in, obeys}
 use Rattle.cv_parse_grammar.specs.Phrases.{Sort, typed}
 use Rattle.cv_parse_grammar.specs.Phrases as sort
 use Rattle.cv_parse_grammar.specs.Rules.{File, heads, rule}
@@ -30,35 +27,9 @@ use Rattle.cv_parse_grammar.specs.yields.Yields.{AllUsed}
 use Rattle.cv_parse_grammar.proofs.yields.Naming.{all_used}
 use Rattle.cv_parse_grammar.proofs.yields.Yielding.{forms_tell}
 use Rattle.cv_derive_laws.specs.stores.Truth.{is_name_of}
-use Rattle.cv_parse_sorts.proofs.EquationTerms.{IsTermOver, Mentioned, OfTerms, of_term, term_rows}
+use Rattle.cv_parse_sorts.proofs.Terms.{IsTermOver, Mentioned, OfTerms, of_term, term_rows}
+use Rattle.cv_parse_sorts.proofs.Parts.{AreBinders, IsInside, Spelled, all_inside, binder_inside, enters, is_of_binder, is_of_term, is_term_sort, no_sorts, only_front, own_there, part_there, term_inside, vars_bind}
 use Rattle.cv_parse_laws.proofs.roles.UsedRoles.{IsIn, form_uses, has_roles, sort_uses}
-
--- roles
-
-abbrev pub is_of_term : Role → Bool
-is_of_term Mentions = true
-is_of_term AsCall = true
-is_of_term AsArray = true
-is_of_term AsBare = true
-is_of_term r = false
-
-abbrev pub is_of_binder : Role → Bool
-is_of_binder BindsLocal = true
-is_of_binder (Asks a) = true
-is_of_binder r = false
-
-abbrev pub is_term_sort : Sort → Bool
-is_term_sort sort.Term = true
-is_term_sort sort.Conjunction = true
-is_term_sort sort.Primary = true
-is_term_sort sort.Unequal = true
-is_term_sort sort.Parentheses = true
-is_term_sort sort.Arguments = true
-is_term_sort sort.Subscript = true
-is_term_sort s = false
-
-abbrev pub no_sorts : Sort → Bool
-no_sorts s = false
 
 term_roles : (s : Sort) → is_term_sort s ≡ true → has_roles is_of_term is_term_sort (rule s) ≡ true
 term_roles sort.Term e = refl
@@ -69,66 +40,6 @@ term_roles sort.Parentheses e = refl
 term_roles sort.Arguments e = refl
 term_roles sort.Subscript e = refl
 term_roles s e = absurd (both_ways false refl e)
-
--- a use that neither begins nor ends a part
-abbrev pub IsInside : Use Role → Type 0
-IsInside u = ((p : Option Region) → part_after p u.role ≡ p) × ((seen : Uses) → since seen u ≡ seen ++ u ∷ [])
-
-pub term_inside : (u : Use Role) → is_of_term u.role ≡ true → IsInside u
-term_inside u e = go u.role refl e
-  where
-    go : (r : Role) → u.role ≡ r → is_of_term r ≡ true → IsInside u
-    go Mentions f e = ((λ p. ap (part_after p) f), (λ seen. ap (λ r. elim r [ Enters q ↦ [] | r ↦ seen ++ u ∷ [] ]) f))
-    go AsCall f e = ((λ p. ap (part_after p) f), (λ seen. ap (λ r. elim r [ Enters q ↦ [] | r ↦ seen ++ u ∷ [] ]) f))
-    go AsArray f e = ((λ p. ap (part_after p) f), (λ seen. ap (λ r. elim r [ Enters q ↦ [] | r ↦ seen ++ u ∷ [] ]) f))
-    go AsBare f e = ((λ p. ap (part_after p) f), (λ seen. ap (λ r. elim r [ Enters q ↦ [] | r ↦ seen ++ u ∷ [] ]) f))
-    go r f e = absurd (both_ways false refl e)
-
-pub binder_inside : (u : Use Role) → is_of_binder u.role ≡ true → IsInside u
-binder_inside u e = go u.role refl e
-  where
-    go : (r : Role) → u.role ≡ r → is_of_binder r ≡ true → IsInside u
-    go BindsLocal f e = ((λ p. ap (part_after p) f), (λ seen. ap (λ r. elim r [ Enters q ↦ [] | r ↦ seen ++ u ∷ [] ]) f))
-    go (Asks a) f e = ((λ p. ap (part_after p) f), (λ seen. ap (λ r. elim r [ Enters q ↦ [] | r ↦ seen ++ u ∷ [] ]) f))
-    go r f e = absurd (both_ways false refl e)
-
-pub all_inside : (p : Role → Bool) → ((u : Use Role) → p u.role ≡ true → IsInside u) → (us : Uses) → AllUsed (IsIn p no_sorts) us → AllByRecursion IsInside us
-all_inside p f [] w = tt
-all_inside p f (u ∷ us) w = (f u w.0, all_inside p f us w.1)
-
--- the part that is open, and what was used there
-
-pub part_append : (p : Option Region) (us vs : Uses) → part_from p (us ++ vs) ≡ part_from (part_from p us) vs
-unfolding part_from
-part_append p [] vs = refl
-part_append p (u ∷ us) vs = part_append (part_after p u.role) us vs
-
-pub part_kept : (p : Option Region) (us : Uses) → AllByRecursion IsInside us → part_from p us ≡ p
-unfolding part_from
-part_kept p [] w = refl
-part_kept p (u ∷ us) w = ap (λ q. part_from q us) (w.0.0 p) ∙ part_kept p us w.1
-
-pub own_append : (seen us vs : Uses) → own_from seen (us ++ vs) ≡ own_from (own_from seen us) vs
-unfolding own_from
-own_append seen [] vs = refl
-own_append seen (u ∷ us) vs = own_append (since seen u) us vs
-
-pub own_kept : (seen us : Uses) → AllByRecursion IsInside us → own_from seen us ≡ seen ++ us
-unfolding own_from
-own_kept [] [] w = refl
-own_kept (s ∷ seen) [] w = ap (λ l. s ∷ l) (own_kept seen [] w)
-own_kept seen (u ∷ us) w = ap (λ l. own_from l us) (w.0.1 seen) ∙ (own_kept (seen ++ u ∷ []) us w.1 ∙ append_assoc seen (u ∷ []) us)
-
-abbrev enters : ℕ → Use Role
-enters n = record { role = Enters InEquation; name = 0; left = n }
-
-part_there : (before us : Uses) (n : ℕ) → AllByRecursion IsInside us → part_from None (before ++ enters n ∷ us) ≡ Some InEquation
-unfolding part_from
-part_there before us n w = part_append None before (enters n ∷ us) ∙ part_kept (Some InEquation) us w
-
-own_there : (before us : Uses) (n : ℕ) → AllByRecursion IsInside us → own_from [] (before ++ enters n ∷ us) ≡ us
-unfolding own_from
-own_there before us n w = own_append [] before (enters n ∷ us) ∙ own_kept [] us w
 
 -- a term binds no name
 binds_none : (x : ℕ) (us : Uses) → AllUsed (IsIn is_of_term no_sorts) us → is_used binds x us ≡ false
@@ -142,83 +53,16 @@ binds_none x (u ∷ us) w = go u.role w.0 (binds_none x us w.1)
     go AsBare e f = f
     go r e f = absurd (both_ways false refl e)
 
--- what the binders of an equation bind
-
-pub asks_bind_none : (x : ℕ) (us : Uses) → AllUsed (IsIn (λ r. not (binds r)) no_sorts) us → is_used binds x us ≡ false
-asks_bind_none x [] w = refl
-asks_bind_none x (u ∷ us) w = go (binds u.role) refl w.0 (asks_bind_none x us w.1)
-  where
-    go : (b : Bool) → binds u.role ≡ b → not b ≡ true → is_used binds x us ≡ false → ((binds u.role && (u.name == x)) || is_used binds x us) ≡ false
-    go true e n f = absurd (both_ways false refl n)
-    go false e n f = ap (λ b. (b && (u.name == x)) || is_used binds x us) e ∙ f
-
-pub or_alone : (b c : Bool) → ((b || false) || c) ≡ true → (b || c) ≡ true
-or_alone true c e = refl
-or_alone false c e = e
-
 module _ (below : Sort → Relation Role Tree) (room : Bool) where
-  abbrev Spelled : {A : Type 0} → Form Role Sort A → Relation Role A
-  Spelled f = Spells heads room below f
-
-  -- each name that is bound among the uses is one of these
-  abbrev BindsOnly : List ℕ → Uses → Type 0
-  BindsOnly names us = (x : ℕ) → is_used binds x us ≡ true → is_name_of names x ≡ true
-
-  binds_front : (names more : List ℕ) (us front back : Uses) → us ≡ front ++ back → ((x : ℕ) → is_used binds x front ≡ true → is_name_of names x ≡ true) → BindsOnly more back → (y : ℕ) → is_used binds y us ≡ true → (is_name_of names y || is_name_of more y) ≡ true
-  binds_front names more us front back e f k y i = go (or_cases (is_used binds y front) (is_used binds y back) (sym (ap (is_used binds y) e ∙ list_any-append (λ u. binds u.role && (u.name == y)) front back) ∙ i))
-    where
-      go : (is_used binds y front ≡ true) ⊎ (is_used binds y back ≡ true) → (is_name_of names y || is_name_of more y) ≡ true
-      go (inl v) = or_left (is_name_of names y) (is_name_of more y) (f y v)
-      go (inr v) = or_right (is_name_of names y) (is_name_of more y) (k y v)
-
-  typed_binds : (ts : List Sign) (b : ℕ × ℕ) (us : Uses) (rest : List Sign) → Spelled (typed BindsLocal) ts b us rest → BindsOnly (b.0 ∷ []) us
-  typed_binds ts b us rest d x e = go (or_cases (is_used binds x d.front) (is_used binds x d.back) (sym (ap (is_used binds x) d.uses ∙ list_any-append (λ u. binds u.role && (u.name == x)) d.front d.back) ∙ e))
-    where
-      none : is_used binds x d.back ≡ false
-      none = asks_bind_none x d.back (form_uses (λ r. not (binds r)) no_sorts heads room below (λ s k. absurd (both_ways false refl k)) (mark.Colon ▸ sort.type_name) refl d.mid b.1 d.back rest d.second)
-
-      go : (is_used binds x d.front ≡ true) ⊎ (is_used binds x d.back ≡ true) → is_name_of (b.0 ∷ []) x ≡ true
-      go (inl k) = sym (ap (is_used binds x) d.first.uses) ∙ k
-      go (inr k) = absurd (both_ways _ none k)
-
-  more_bind : (ts : List Sign) (bs : List (ℕ × ℕ)) (us : Uses) (rest : List Sign) → Each (Spelled (mark.Comma ▸ typed BindsLocal)) false (starts heads (mark.Comma ▸ typed BindsLocal)) ts bs us rest → BindsOnly (bound_names (binders bs)) us
-  more_bind ts [] us rest d x e = absurd (both_ways _ (ap (is_used binds x) d.0.uses) e)
-  more_bind ts (b ∷ bs) us rest d x e = or_alone (b.0 == x) (is_name_of (bound_names (binders bs)) x) (binds_front (b.0 ∷ []) (bound_names (binders bs)) us d.front d.back d.uses front (more_bind d.mid bs d.back rest d.second) x e)
-    where
-      front : BindsOnly (b.0 ∷ []) d.front
-      front y i =
-          let k = d.first.1 in
-          subst (λ c. is_name_of (c ∷ []) y ≡ true) (ap (λ (z : ℕ × ℕ). z.0) d.first.2)
-          (typed_binds k.mid d.first.0.1 k.back d.mid k.second y (sym (ap (is_used binds y) (k.uses ∙ ap (λ l. l ++ k.back) k.first.uses)) ∙ i))
-
-  abbrev AreBinders : Tree → Uses → Type 0
-  AreBinders l us = (bs : List (ℕ × ℕ)) × (l ≡ binders bs) × BindsOnly (bound_names l) us
-
-  only_front : (us front back : Uses) → us ≡ front ++ back → back ≡ [] → (x : ℕ) → is_used binds x us ≡ true → is_used binds x front ≡ true
-  only_front us front back e f x k = go (or_cases (is_used binds x front) (is_used binds x back) (sym (ap (is_used binds x) e ∙ list_any-append (λ u. binds u.role && (u.name == x)) front back) ∙ k))
-    where
-      go : (is_used binds x front ≡ true) ⊎ (is_used binds x back ≡ true) → is_used binds x front ≡ true
-      go (inl v) = v
-      go (inr v) = absurd (both_ways _ (ap (is_used binds x) f) v)
-
-  row_binds : (ts : List Sign) (bs : List (ℕ × ℕ)) (us : Uses) (rest : List Sign) → Spelled (sort.row mark.Comma (typed BindsLocal)) ts bs us rest → BindsOnly (bound_names (binders bs)) us
-  row_binds ts bs us rest d =
-      let k = d.1 in
-      subst (λ l. BindsOnly (bound_names (binders l)) us) d.2
-      (λ x e. or_alone (d.0.0.0 == x) (is_name_of (bound_names (binders d.0.1)) x) (binds_front (d.0.0.0 ∷ []) (bound_names (binders d.0.1)) us k.front k.back k.uses (typed_binds ts d.0.0 k.front k.mid k.first) (more_bind k.mid d.0.1 k.back rest k.second) x e))
-
-  vars_bind : (ts : List Sign) (l : Tree) (us : Uses) (rest : List Sign) → Spelled (sort.vars BindsLocal) ts l us rest → AreBinders l us
-  vars_bind ts l us rest d = (d.0, sym d.2, subst (λ t. BindsOnly (bound_names t) us) d.2 (row_binds ts d.0 us rest d.1))
-
-  are_binders : (ts : List Sign) (l : Tree) (us : Uses) (rest : List Sign) → Spelled forall_vars ts l us rest → AreBinders l us
+  are_binders : (ts : List Sign) (l : Tree) (us : Uses) (rest : List Sign) → Spelled below room forall_vars ts l us rest → AreBinders below room l us
   are_binders ts l us rest (None, d, e) = ([], sym e, λ x i. absurd (both_ways _ (ap (is_used binds x) d.0.uses) i))
   are_binders ts l us rest (Some t, d, e) =
       let k = d.1 in
       let m = k.second.1 in
-      let v = vars_bind k.mid k.second.0.0 m.front m.mid m.first in
+      let v = vars_bind below room k.mid k.second.0.0 m.front m.mid m.first in
       let same : k.second.0.0 ≡ l = k.second.2 ∙ (d.2 ∙ e) in
       let found : us ≡ m.front ++ m.back = k.uses ∙ (ap (λ z. z ++ k.back) k.first.uses ∙ m.uses) in
-      (v.0, sym same ∙ v.1, subst (λ z. BindsOnly (bound_names z) us) same (λ x i. v.2 x (only_front us m.front m.back found m.second.uses x i)))
+      (v.0, sym same ∙ v.1, subst (λ z. (x : ℕ) → is_used binds x us ≡ true → is_name_of (bound_names z) x ≡ true) same (λ x i. v.2 x (only_front below room us m.front m.back found m.second.uses x i)))
 
   -- the parts of an equation, and the uses in them
   record IsEquation (b : List Declaration) (us : Uses) : Type 0 where
@@ -229,14 +73,14 @@ module _ (below : Sort → Relation Role Tree) (room : Bool) where
     bound : Uses
     used : Uses
     behind : Uses
-    split : us ≡ enters left ∷ ((bound ++ used) ++ behind)
+    split : us ≡ enters InEquation left ∷ ((bound ++ used) ++ behind)
     start : List Sign
     middle : List Sign
     end : List Sign
-    first : Spelled forall_vars start binders bound middle
-    second : Spelled terms.term middle term used end
+    first : Spelled below room forall_vars start binders bound middle
+    second : Spelled below room terms.term middle term used end
 
-  is_equation : (ts : List Sign) (b : List Declaration) (us : Uses) (rest : List Sign) → Spelled equation_decl ts b us rest → IsEquation b us
+  is_equation : (ts : List Sign) (b : List Declaration) (us : Uses) (rest : List Sign) → Spelled below room equation_decl ts b us rest → IsEquation b us
   is_equation ts b us rest d =
       let one = d.1.1 in
       let two = one.second.1 in
@@ -256,8 +100,8 @@ module _ (below : Sort → Relation Role Tree) (room : Bool) where
             one.uses
             ∙ (ap (λ z. z ++ one.back) one.first.uses
             ∙ (two.uses
-            ∙ (ap (λ z. z ++ two.back) (three.uses ∙ (ap (λ z. z ++ three.back) three.first.1.uses ∙ ap (λ z. enters (length one.mid) ∷ z) (four.uses ∙ ap (λ z. z ++ four.back) five.uses)))
-            ∙ ap (λ z. enters (length one.mid) ∷ z) (append_assoc (five.front ++ five.back) four.back two.back))));
+            ∙ (ap (λ z. z ++ two.back) (three.uses ∙ (ap (λ z. z ++ three.back) three.first.1.uses ∙ ap (λ z. enters InEquation (length one.mid) ∷ z) (four.uses ∙ ap (λ z. z ++ four.back) five.uses)))
+            ∙ ap (λ z. enters InEquation (length one.mid) ∷ z) (append_assoc (five.front ++ five.back) four.back two.back))));
         start = three.mid;
         middle = five.mid;
         end = four.mid;
@@ -292,10 +136,10 @@ module _ (ts : List Sign) (ds : List Declaration) (s : Option (ℕ × ℕ)) (g :
     abbrev after : Uses
     after = w.behind ++ behind
 
-    in_parts : us ++ behind ≡ enters w.left ∷ (w.bound ++ (w.used ++ after))
+    in_parts : us ++ behind ≡ enters InEquation w.left ∷ (w.bound ++ (w.used ++ after))
     in_parts =
         ap (λ z. z ++ behind) w.split
-        ∙ ap (λ z. enters w.left ∷ z) (append_assoc (w.bound ++ w.used) w.behind behind ∙ append_assoc w.bound w.used after)
+        ∙ ap (λ z. enters InEquation w.left ∷ z) (append_assoc (w.bound ++ w.used) w.behind behind ∙ append_assoc w.bound w.used after)
 
     binding : AreBinders below true w.binders w.bound
     binding = are_binders below true w.start w.binders w.bound w.middle w.first
@@ -308,7 +152,7 @@ module _ (ts : List Sign) (ds : List Declaration) (s : Option (ℕ × ℕ)) (g :
 
     module _ (pre : Uses) (u : Use Role) (post : Uses) (e : w.used ≡ pre ++ u ∷ post) where
       abbrev earlier : Uses
-      earlier = before ++ enters w.left ∷ (w.bound ++ pre)
+      earlier = before ++ enters InEquation w.left ∷ (w.bound ++ pre)
 
       pre_used : AllUsed (IsIn is_of_term is_term_sort) pre
       pre_used = AllByRecursion_left (λ (v : Use Role). is_of_term v.role ≡ true) pre (u ∷ post) (subst (AllUsed (IsIn is_of_term is_term_sort)) e term_used)
@@ -319,11 +163,11 @@ module _ (ts : List Sign) (ds : List Declaration) (s : Option (ℕ × ℕ)) (g :
       use_split : All ≡ earlier ++ u ∷ (post ++ after)
       use_split =
           split
-          ∙ (ap (λ z. before ++ z) (in_parts ∙ ap (λ z. enters w.left ∷ z) (ap (λ z. w.bound ++ (z ++ after)) e ∙ (ap (λ z. w.bound ++ z) (append_assoc pre (u ∷ post) after) ∙ sym (append_assoc w.bound pre (u ∷ (post ++ after))))))
-          ∙ sym (append_assoc before (enters w.left ∷ (w.bound ++ pre)) (u ∷ (post ++ after))))
+          ∙ (ap (λ z. before ++ z) (in_parts ∙ ap (λ z. enters InEquation w.left ∷ z) (ap (λ z. w.bound ++ (z ++ after)) e ∙ (ap (λ z. w.bound ++ z) (append_assoc pre (u ∷ post) after) ∙ sym (append_assoc w.bound pre (u ∷ (post ++ after))))))
+          ∙ sym (append_assoc before (enters InEquation w.left ∷ (w.bound ++ pre)) (u ∷ (post ++ after))))
 
       known : (x : ℕ) → obeys earlier Mentions x (post ++ after) ≡ true → IsKnown w.binders x
-      known x o = go (or_cases _ (not (as_call (post ++ after)) && is_own earlier x) (sym (ap (λ p. known_in p earlier (post ++ after) x) (part_there before (w.bound ++ pre) w.left inside)) ∙ o))
+      known x o = go (or_cases _ (not (as_call (post ++ after)) && is_own earlier x) (sym (ap (λ p. known_in p earlier (post ++ after) x) (part_there InEquation before (w.bound ++ pre) w.left inside)) ∙ o))
         where
           own : (is_used binds x w.bound ≡ true) ⊎ (is_used binds x pre ≡ true) → IsKnown w.binders x
           own (inl k) = inl (binding.2 x k)
@@ -335,7 +179,7 @@ module _ (ts : List Sign) (ds : List Declaration) (s : Option (ℕ × ℕ)) (g :
               inr (ap (is_used (declares_as AFunction) x) use_split ∙ (list_any-append (λ v. declares_as AFunction v.role && (v.name == x)) earlier (u ∷ (post ++ after)) ∙ or_left (is_function earlier x) _ f))
           go (inr k) =
               let o : is_own earlier x ≡ true = (and_parts (not (as_call (post ++ after))) _ k).1 in
-              own (or_cases (is_used binds x w.bound) (is_used binds x pre) (sym (ap (is_used binds x) (own_there before (w.bound ++ pre) w.left inside) ∙ list_any-append (λ v. binds v.role && (v.name == x)) w.bound pre) ∙ o))
+              own (or_cases (is_used binds x w.bound) (is_used binds x pre) (sym (ap (is_used binds x) (own_there InEquation before (w.bound ++ pre) w.left inside) ∙ list_any-append (λ v. binds v.role && (v.name == x)) w.bound pre) ∙ o))
 
       told : (role : Role) (x : ℕ) → obeys earlier role x (post ++ after) ≡ true → Mentioned (IsKnown w.binders) role x
       told Mentions x o = known x o

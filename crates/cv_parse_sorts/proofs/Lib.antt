@@ -3,7 +3,9 @@ mod SmallNames
 mod UsedNames
 pub mod Known
 pub mod Constants
-mod EquationTerms
+mod Terms
+mod Parts
+mod Typed
 pub mod Equations
 pub mod Closed
 mod NamedTrees

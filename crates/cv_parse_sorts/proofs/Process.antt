@@ -25,7 +25,7 @@ use Rattle.cv_parse_laws.proofs.roles.UsedRoles.{IsIn, form_uses, has_roles, sor
 use Rattle.cv_parse_sorts.proofs.Calls.{AllSay, Says}
 use Rattle.cv_parse_sorts.proofs.Bindings.{IsBound, bound_parts}
 use Rattle.cv_parse_sorts.proofs.BindingRows.{quiet_form}
-use Rattle.cv_parse_sorts.proofs.Equations.{part_append}
+use Rattle.cv_parse_sorts.proofs.Parts.{part_append}
 
 -- the part that is open
 

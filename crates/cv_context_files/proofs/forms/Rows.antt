@@ -9,7 +9,6 @@ use Rattle.cv_syntax_trees.specs.Declarations.{Declaration, Equiv}
 use Rattle.cv_syntax_trees.specs.declared.head.Head.TheVariants.{Equivalence}
 use Rattle.cv_syntax_trees.specs.Tree.{Tree, Node, chain, first, second}
 use Rattle.cv_parse_notation.specs.Form.{Form}
-use Rattle.cv_parse_grammar.specs.declared.role.Region.{Region}
 use Rattle.cv_parse_grammar.specs.declared.role.Role.{Role}
 use Rattle.cv_parse_grammar.specs.declared.role.Role.TheVariants.{BindsLocal}
 use Rattle.cv_parse_grammar.specs.Declarations.{channel_decl, collision_decl, const_decl, constant, declaration, equation_decl, equiv_decl, event_decl, fun_decl, named, param_decl, proba_decl, query_decl, type_decl}
@@ -23,6 +22,7 @@ use Rattle.cv_parse_laws.specs.Shapes.{IsFree, IsOfSort}
 use Rattle.cv_parse_grammar.specs.yields.Yields.{Yields}
 use Rattle.cv_parse_laws.proofs.Rows.{rows}
 use Rattle.cv_parse_grammar.proofs.yields.Yielding.{Gives, anything, before, behind, below, follow, leveled, one_of, several, turned}
+use Rattle.cv_parse_laws.proofs.roles.Forms.{enclosed}
 use Rattle.cv_scope_rules.specs.Phrases.{Term, is_phrase}
 use Rattle.cv_group_rules.specs.Rules.{each_function, is_one_binder, is_term}
 use Rattle.cv_match_laws.specs.functions.Forms.{HasLeftForm, is_whole}
@@ -154,9 +154,6 @@ of_equation = turned anything (λ x w. (tt, tt))
 
 of_query : Makes query_decl HaveLeftForms
 of_query = turned anything (λ x w. (tt, tt))
-
-enclosed : {A : Type 0} {r : Region} {f : Form Role Sort A} {p : A → Type 0} → Makes f p → Makes (inside r f) p
-enclosed i = turned (follow anything (follow i anything)) (λ x w. w.1.0)
 
 -- a collision has one function, with this body
 collided : (x p : ℕ) (key : ℕ × ℕ) (args l r : Tree) → is_phrase Term l ≡ true → HasLeftForm (Node (Equivalence p) (lone_group x key args l) (lone_group x key args r))

@@ -6,14 +6,11 @@ use Rattle.cv_syntax_trees.specs.declared.class.Class.{Class}
 use Rattle.cv_syntax_trees.specs.declared.head.Head.TheVariants.{Equivalence}
 use Rattle.cv_syntax_trees.specs.Declarations.{Declaration, Equiv}
 use Rattle.cv_syntax_trees.specs.Tree.{Tree, Empty, Node}
-use Rattle.cv_parse_notation.specs.Form.{Form}
-use Rattle.cv_parse_grammar.specs.declared.role.Region.{Region}
-use Rattle.cv_parse_grammar.specs.declared.role.Role.{Role}
 use Rattle.cv_parse_grammar.specs.Declarations.{collision_decl, constant, declaration, equiv_decl, named}
 use Rattle.cv_parse_grammar.specs.Equivalences.{function_of, lone_group}
-use Rattle.cv_parse_grammar.specs.Phrases.{Sort, inside}
 use Rattle.cv_parse_grammar.specs.Rules.{file}
 use Rattle.cv_parse_grammar.proofs.yields.Yielding.{anything, before, behind, follow, one_of, several, turned}
+use Rattle.cv_parse_laws.proofs.roles.Forms.{enclosed}
 use Rattle.cv_scope_rules.specs.Phrases.{Term, is_phrase}
 use Rattle.cv_group_rules.specs.Rules.{branches_have_one_index, have_one_index}
 use Rattle.cv_context_files.specs.right_forms.Forms.{HasRightForm}
@@ -37,9 +34,6 @@ all_named c (x ∷ l) = (tt, all_named c l)
 all_constants : (T : ℕ) (l : List ℕ) → HaveRightForms (map (constant T) l)
 all_constants T [] = tt
 all_constants T (x ∷ l) = (tt, all_constants T l)
-
-enclosed : {A : Type 0} {r : Region} {f : Form Role Sort A} {p : A → Type 0} → Makes f p → Makes (inside r f) p
-enclosed i = turned (follow anything (follow i anything)) (λ x w. w.1.0)
 
 -- a group is a right side
 side_of : (p : ℕ) (l r : Tree) → IsRightGroup r → HasForm (Node (Equivalence p) l r)

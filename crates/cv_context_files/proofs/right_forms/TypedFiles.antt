@@ -16,12 +16,12 @@ use Rattle.cv_context_files.proofs.right_forms.Types.{HasOneType, functions_type
 
 -- parts of lists of parts
 
-front_typed : (ds : List Declaration) (xs ys : List Part) → AreTyped ds (xs ++ ys) → AreTyped ds xs
+pub front_typed : (ds : List Declaration) (xs ys : List Part) → AreTyped ds (xs ++ ys) → AreTyped ds xs
 unfolding AreTyped
 front_typed ds [] ys k = tt
 front_typed ds (x ∷ xs) ys k = (k.0, front_typed ds xs ys k.1)
 
-back_typed : (ds : List Declaration) (xs ys : List Part) → AreTyped ds (xs ++ ys) → AreTyped ds ys
+pub back_typed : (ds : List Declaration) (xs ys : List Part) → AreTyped ds (xs ++ ys) → AreTyped ds ys
 unfolding AreTyped
 back_typed ds [] ys k = k
 back_typed ds (x ∷ xs) ys k = back_typed ds xs ys k.1

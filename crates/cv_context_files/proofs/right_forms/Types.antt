@@ -18,7 +18,6 @@ use Rattle.cv_syntax_trees.specs.sites.Sorts.{differs_from, same_sort}
 use Rattle.cv_scope_rules.specs.typing.Typing.{IsTyped, fault_of, site_differs}
 use Rattle.cv_scope_rules.specs.typing.Wants.{Want, is_wrong}
 use Rattle.cv_meaning.specs.contexts.Groups.{Function, functions_of}
-use Rattle.cv_meaning.specs.contexts.Sites as sites
 use Rattle.cv_inline_names_laws.specs.cells.Layout.{IsTypedBy, new_type, type_in, type_or_none}
 
 -- the first of two options

@@ -2,7 +2,6 @@
 use Rattle.std.proofs.Common.{◌≡◌, ℕ, Bool, true, not, List, [], ◌∷◌, Option, Some, None, refl}
 use Rattle.std.specs.List.{AllByRecursion}
 use Rattle.cv_syntax_trees.specs.Tree.{Tree, Empty, binders, first, second}
-use Rattle.cv_parse_notation.specs.declared.sign.Mark.{Mark}
 use Rattle.cv_parse_notation.specs.Form.{Form}
 use Rattle.cv_parse_grammar.specs.declared.role.Role.{Role}
 use Rattle.cv_parse_grammar.specs.declared.role.Role.TheVariants.{AsksBound, BindsLocal}
@@ -17,6 +16,7 @@ use Rattle.cv_parse_grammar.specs.yields.Yields.{IfThere, Yields}
 use Rattle.cv_parse_laws.proofs.Rows.{rows}
 use Rattle.cv_parse_laws.proofs.Shaping.{bound}
 use Rattle.cv_parse_grammar.proofs.yields.Yielding.{Gives, a_word, anything, before, behind, below, follow, leveled, one_of, perhaps, several, turned, weaker}
+use Rattle.cv_parse_laws.proofs.roles.Forms.{in_row}
 use Rattle.cv_scope_rules.specs.Phrases.{Binders, Cells, Term}
 use Rattle.cv_context_files.specs.right_names.Bindings.{HasFreeNames}
 use Rattle.cv_context_files.proofs.right_names.Phrases.{chained, node, none, phrase_free}
@@ -42,9 +42,6 @@ module _ (barred : ℕ → Bool) where
 
   abbrev pub Binds : ℕ × ℕ → Type 0
   Binds b = not (barred b.0) ≡ true
-
-  in_row : {A : Type 0} {m : Mark} {f : Form Role Sort A} {p : A → Type 0} → Makes f p → Makes (row m f) (AllByRecursion p)
-  in_row i = turned (follow i (several (behind i))) (λ x w. w)
 
   pub a_local : Makes (typed BindsLocal) Binds
   a_local = weaker (follow a_word anything) (λ b w. w.0 refl)

@@ -1,22 +1,15 @@
 -- So are the equivalences of a file that is read: no right side binds a constant.
-use Rattle.std.proofs.Common.{◌≡◌, ◌==◌, ℕ, Bool, false, List, [], ◌∷◌, Option, Ok, ap, sym, subst, ◌∙◌}
-use Rattle.std.proofs.lemmas.Bool.{not_from_false, or_parts}
+use Rattle.std.proofs.Common.{◌≡◌, ℕ, Bool, List, [], ◌∷◌, Option, Ok, sym, subst}
 use Rattle.std.specs.List.{AllByRecursion}
 use Rattle.cv_syntax_trees.specs.Declarations.{Declaration, Named, Equation, Equiv, Query}
 use Rattle.cv_syntax_trees.specs.Tree.{Tree, second}
 use Rattle.cv_meaning.specs.Interpretation.{is_constant_of}
 use Rattle.cv_parse_notation.specs.declared.sign.Sign.{Sign}
 use Rattle.cv_parse_grammar.specs.Files.{levels}
-use Rattle.cv_parse_grammar.specs.Identities.{ids_of, is_among}
-use Rattle.cv_parse_grammar.specs.Names.{declares, is_used}
 use Rattle.cv_parse_grammar.specs.Rules.{File, file, heads, rule}
-use Rattle.cv_parse_grammar.specs.Whole.{IsRead, built_in}
-use Rattle.cv_parse_grammar.proofs.Identities.{among, declared_names}
+use Rattle.cv_parse_grammar.specs.Whole.{IsRead}
 use Rattle.cv_parse.specs.Parsed.{Parsed, bool_type, parsed}
 use Rattle.cv_parse.proofs.Exactness.{said_is_saying}
-use Rattle.cv_parse_laws.specs.Shapes.{IsFree}
-use Rattle.cv_parse_grammar.specs.yields.Yields.{AllUsed}
-use Rattle.cv_parse_grammar.proofs.yields.Naming.{all_used, bound_undeclared, undeclared_constant}
 use Rattle.cv_parse_grammar.proofs.yields.Yielding.{forms_tell}
 use Rattle.cv_group_rules.specs.Faults.{equivalences_in}
 use Rattle.cv_context_files.specs.right_names.Bindings.{HasFreeNames}

@@ -1,5 +1,5 @@
 -- Nothing stands at a name that a phrase of the grammar binds.
-use Rattle.std.proofs.Common.{◌≡◌, ℕ, Bool, true, false, ◌&&◌, List, [], ◌∷◌, Option, Some, None, refl}
+use Rattle.std.proofs.Common.{◌≡◌, ℕ, Bool, true, false, ◌&&◌, List, [], ◌∷◌, Option, Some, refl}
 use Rattle.std.proofs.lemmas.Bool.{and_from, both_ways}
 use Rattle.std.specs.List.{AllByRecursion}
 use Rattle.cv_syntax_trees.specs.declared.head.Head.{Head}
@@ -10,13 +10,8 @@ use Rattle.cv_parse_laws.specs.Shapes.{IsShaped}
 use Rattle.cv_parse_laws.proofs.Shaping.{opened}
 use Rattle.cv_inline_names_laws.specs.accepted.RightBodies.{is_empty}
 use Rattle.cv_inline_names_laws.specs.covered.Covered.{names_stand_bare, stands_bare}
+use Rattle.cv_context_laws.proofs.calls.Games.{no_row}
 use Rattle.cv_context_files.specs.right_names.Bindings.{HasFreeNames}
-
-no_row : {A : Type 0} (q : Phrase × Phrase) → ◌≡◌ {A = Option (Phrase × Phrase)} None (Some q) → A
-no_row q e = absurd (clash e)
-  where
-    clash : ◌≡◌ {A = Option (Phrase × Phrase)} None (Some q) → ⊥
-    clash e = cc
 
 row_first : (p q : Phrase × Phrase) → ◌≡◌ {A = Option (Phrase × Phrase)} (Some p) (Some q) → p.0 ≡ q.0
 row_first p q e = cc

@@ -5,14 +5,11 @@ use Rattle.cv_syntax_trees.proofs.lists.Each.{AllByRecursion_flat_map}
 use Rattle.cv_syntax_trees.specs.declared.class.Class.{Class}
 use Rattle.cv_syntax_trees.specs.Declarations.{Declaration, Equiv}
 use Rattle.cv_syntax_trees.specs.Tree.{Tree, second}
-use Rattle.cv_parse_notation.specs.Form.{Form}
-use Rattle.cv_parse_grammar.specs.declared.role.Region.{Region}
-use Rattle.cv_parse_grammar.specs.declared.role.Role.{Role}
 use Rattle.cv_parse_grammar.specs.Declarations.{collision_decl, constant, declaration, equiv_decl, forall_vars, named}
 use Rattle.cv_parse_grammar.specs.Equivalences.{lone_group}
-use Rattle.cv_parse_grammar.specs.Phrases.{Sort, inside}
 use Rattle.cv_parse_grammar.specs.Rules.{file}
 use Rattle.cv_parse_grammar.proofs.yields.Yielding.{anything, before, behind, follow, one_of, several, turned}
+use Rattle.cv_parse_laws.proofs.roles.Forms.{enclosed}
 use Rattle.cv_context_files.specs.right_names.Bindings.{HasFreeNames}
 use Rattle.cv_context_files.proofs.right_names.Phrases.{chained, node}
 use Rattle.cv_context_files.proofs.right_names.Bodies.{Binds, Is, Makes, a_local, bound_free, function_is, in_list, of_group, of_term, of_vars}
@@ -32,9 +29,6 @@ module _ (barred : ℕ → Bool) where
   all_constants : (T : ℕ) (l : List ℕ) → HaveFreeSides (map (constant T) l)
   all_constants T [] = tt
   all_constants T (x ∷ l) = (tt, all_constants T l)
-
-  enclosed : {A : Type 0} {r : Region} {f : Form Role Sort A} {p : A → Type 0} → Makes barred f p → Makes barred (inside r f) p
-  enclosed i = turned (follow anything (follow i anything)) (λ x w. w.1.0)
 
   of_forall : Makes barred forall_vars (Is barred)
   of_forall = in_list barred (behind (before (of_vars barred)))

@@ -1,5 +1,5 @@
 -- In a typed file each `new` of an equivalence chooses from a fixed type, which is declared.
-use Rattle.std.proofs.Common.{◌≡◌, ℕ, suc, Bool, true, false, cond, not, ◌||◌, List, [], ◌∷◌, ◌++◌, flat_map, Contains, Option, Some, None, inl, inr, refl, sym, ap, subst, eqb-true, arith}
+use Rattle.std.proofs.Common.{◌≡◌, ℕ, suc, Bool, true, false, cond, not, ◌||◌, List, [], ◌∷◌, flat_map, Contains, Option, Some, None, inl, inr, refl, sym, ap, subst, eqb-true, arith}
 use Rattle.std.proofs.lemmas.Bool.{both_ways}
 use Rattle.std.specs.List.{AllByRecursion}
 use Rattle.cv_syntax_trees.specs.declared.class.Class.TheVariants as class
@@ -19,6 +19,7 @@ use Rattle.cv_scope_rules.specs.typing.Signature.{Above, Arrays, Signature, arit
 use Rattle.cv_syntax_trees.specs.sites.Counting.{count}
 use Rattle.cv_scope_rules.specs.typing.Typing.{IsTyped, fault_of, site_differs}
 use Rattle.cv_scope_rules.specs.typing.Wants.{Run, Want, above_second, is_index_sent, is_wrong, wants}
+use Rattle.cv_context_files.proofs.right_forms.TypedFiles.{back_typed, front_typed}
 use Rattle.cv_context_files.specs.tapes.Declared.{BodiesChooseFromDeclaredTypes, ChoosesFromDeclaredTypes}
 
 -- a fixed type is declared
@@ -75,20 +76,10 @@ news_declared e above w (Node k a b) h =
 part_declared : (ds : List Declaration) (p : Part) → IsTypedPart ds p → ChoosesFromDeclaredTypes ds p.tree
 part_declared ds p h = news_declared (signature_of ds p) p.above p.want p.tree h
 
-typed_left : (ds : List Declaration) (ps qs : List Part) → AreTyped ds (ps ++ qs) → AreTyped ds ps
-unfolding AreTyped
-typed_left ds [] qs h = tt
-typed_left ds (p ∷ ps) qs h = (h.0, typed_left ds ps qs h.1)
-
-typed_right : (ds : List Declaration) (ps qs : List Part) → AreTyped ds (ps ++ qs) → AreTyped ds qs
-unfolding AreTyped
-typed_right ds [] qs h = h
-typed_right ds (p ∷ ps) qs h = typed_right ds ps qs h.1
-
 typed_declaration : (ds es : List Declaration) (d : Declaration) → AreTyped ds (flat_map (declaration_parts ds) es) → Has es d → AreTyped ds (declaration_parts ds d)
 typed_declaration ds [] d h k = absurd k
-typed_declaration ds (c ∷ es) d h (inl e) = subst (λ z. AreTyped ds (declaration_parts ds z)) (sym e) (typed_left ds (declaration_parts ds c) _ h)
-typed_declaration ds (c ∷ es) d h (inr k) = typed_declaration ds es d (typed_right ds (declaration_parts ds c) _ h) k
+typed_declaration ds (c ∷ es) d h (inl e) = subst (λ z. AreTyped ds (declaration_parts ds z)) (sym e) (front_typed ds (declaration_parts ds c) _ h)
+typed_declaration ds (c ∷ es) d h (inr k) = typed_declaration ds es d (back_typed ds (declaration_parts ds c) _ h) k
 
 bodies_declared : (ds : List Declaration) (arrays : Arrays) (key : Tree) (Ss : List (Option Sort)) (functions : Tree) → AreTyped ds (body_parts arrays key Ss functions)
     → AllByRecursion (λ (f : Function). ChoosesFromDeclaredTypes ds f.body) (functions_of functions)
@@ -104,10 +95,10 @@ abbrev left_results : List Declaration → Tree → List (Option Sort)
 left_results ds t = results (record { declarations = ds; arrays = side_arrays (first t) }) (first (first t)) (second (first t))
 
 sides_declared : (ds : List Declaration) (t : Tree) → AreTyped ds (equivalence_parts ds t) → (which : Which) → BodiesChooseFromDeclaredTypes ds t which
-sides_declared ds t h Left = bodies_declared ds (side_arrays (first t)) (first (first t)) [] (second (first t)) (typed_left ds (body_parts (side_arrays (first t)) (first (first t)) [] (second (first t))) _ h)
+sides_declared ds t h Left = bodies_declared ds (side_arrays (first t)) (first (first t)) [] (second (first t)) (front_typed ds (body_parts (side_arrays (first t)) (first (first t)) [] (second (first t))) _ h)
 sides_declared ds t h Right =
-    bodies_declared ds (side_arrays (second t)) (first (second t)) (left_results ds t) (second (second t)) (typed_right ds (body_parts (side_arrays (first t)) (first (first t)) [] (second (first t))) _ h)
+    bodies_declared ds (side_arrays (second t)) (first (second t)) (left_results ds t) (second (second t)) (back_typed ds (body_parts (side_arrays (first t)) (first (first t)) [] (second (first t))) _ h)
 
 pub bodies_choose_declared : (ds : List Declaration) (game : Tree) (name : ℕ) (equivalence : Tree) → IsTypedFile ds game → Contains ds (Equiv name equivalence) → (which : Which) → BodiesChooseFromDeclaredTypes ds equivalence which
 bodies_choose_declared ds game name t h k which =
-    sides_declared ds t (typed_declaration ds ds (Equiv name t) (typed_left ds (flat_map (declaration_parts ds) ds) (game_part game ∷ []) h) (contains_has ds (Equiv name t) k)) which
+    sides_declared ds t (typed_declaration ds ds (Equiv name t) (front_typed ds (flat_map (declaration_parts ds) ds) (game_part game ∷ []) h) (contains_has ds (Equiv name t) k)) which

@@ -1,6 +1,5 @@
 -- The types of the equivalences of a typed file are declared, so the advantages of contexts have tapes.
-use Rattle.std.proofs.Common.{◌≡◌, ℕ, List, [], ◌∷◌, Contains, ◌⊎◌, inl, inr, Ok, Option, sym, subst}
-use Rattle.std.specs.List.{AllByRecursion}
+use Rattle.std.proofs.Common.{◌≡◌, ℕ, List, [], ◌∷◌, Contains, inl, inr, Ok, Option, sym, subst}
 use Rattle.cv_syntax_trees.specs.Declarations.{Declaration, Equiv}
 use Rattle.cv_syntax_trees.specs.Tree.{Tree}
 use Rattle.cv_meaning.specs.Experiments.{Experiment, mode_of}

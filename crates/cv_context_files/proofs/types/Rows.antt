@@ -6,12 +6,11 @@ use Rattle.cv_syntax_trees.specs.declared.class.Class.{Class}
 use Rattle.cv_syntax_trees.specs.declared.class.Class.TheVariants as class
 use Rattle.cv_syntax_trees.specs.declared.head.Head.TheVariants.{Equivalence}
 use Rattle.cv_syntax_trees.specs.Declarations.{Declaration, Equiv}
-use Rattle.cv_syntax_trees.specs.Tree.{Tree, Node, binders, chain, first}
+use Rattle.cv_syntax_trees.specs.Tree.{Tree, Node, binders, chain}
 use Rattle.cv_meaning.specs.Correspondences.{typed_names}
 use Rattle.cv_meaning.specs.contexts.Groups.{Function, Group, Left, Right, Which, function_of, functions_of, group_of, side_group}
 use Rattle.cv_meaning_laws.specs.adequacy.Typed.{IsDeclared, OfType}
 use Rattle.cv_parse_notation.specs.Form.{Form}
-use Rattle.cv_parse_grammar.specs.declared.role.Region.{Region}
 use Rattle.cv_parse_grammar.specs.declared.role.Role.{Role}
 use Rattle.cv_parse_grammar.specs.declared.role.Role.TheVariants.{BindsLocal}
 use Rattle.cv_parse_grammar.specs.Declarations.{channel_decl, collision, collision_decl, const_decl, constant, declaration, equation_decl, equiv_decl, event_decl, fun_decl, named, param_decl, proba_decl, query_decl, type_decl}
@@ -21,6 +20,7 @@ use Rattle.cv_parse_grammar.specs.Phrases as sort
 use Rattle.cv_parse_grammar.specs.Rules.{file, rule}
 use Rattle.cv_parse_grammar.specs.yields.Yields.{Yields}
 use Rattle.cv_parse_grammar.proofs.yields.Yielding.{Gives, a_word, anything, before, behind, below, follow, leveled, one_of, several, turned, weaker}
+use Rattle.cv_parse_laws.proofs.roles.Forms.{enclosed}
 use Rattle.cv_parse_laws.proofs.roles.Rows.{Asked}
 use Rattle.cv_context_files.specs.tapes.Declared.{AreOfDeclaredTypes}
 
@@ -129,9 +129,6 @@ module _ (ds : List Declaration) where
 
   of_query : Makes query_decl HaveGroups
   of_query = turned anything (λ x w. (tt, tt))
-
-  enclosed : {A : Type 0} {r : Region} {f : Form Role Sort A} {p : A → Type 0} → Makes f p → Makes (inside r f) p
-  enclosed i = turned (follow anything (follow i anything)) (λ x w. w.1.0)
 
   both_groups : (p : ℕ) (l r : Tree) → IsGroup (group_of l) → IsGroup (group_of r) → HasGroups (Node (Equivalence p) l r)
   both_groups p l r u v Left = u

@@ -1,12 +1,12 @@
 -- The rows of processes and of the bodies of functions read what the forms of the grammar read.
-use Rattle.std.proofs.Common.{◌≡◌, ℕ, zero, suc, ◌+◌, ◌<◌, true, false, [], ◌∷◌, ◌++◌, refl, ap, lit<, append_assoc, Option, Some, None}
+use Rattle.std.proofs.Common.{◌≡◌, ℕ, zero, suc, ◌<◌, true, false, [], ◌∷◌, ◌++◌, refl, ap, lit<, append_assoc, Option, Some, None}
 use Rattle.cv_syntax_trees.specs.Tree.{Tree, Empty, Node, first, second, chain, binders, names}
 use Rattle.cv_syntax_trees.specs.declared.head.Head.TheVariants as head
 use Rattle.cv_syntax.specs.Postorder.{postorder}
 use Rattle.cv_syntax.specs.declared.make.Make.TheVariants.{Nothing, Over}
 use Rattle.cv_parse_notation.specs.declared.sign.Mark.TheVariants as mark
 use Rattle.cv_parse_notation.specs.Spells.{Kind, starts}
-use Rattle.cv_parse_notation.specs.Form.{word, number, made, level, deeper, ◌&◌, ◌▸◌, ◌◂◌}
+use Rattle.cv_parse_notation.specs.Form.{word, made, deeper, ◌&◌, ◌▸◌, ◌◂◌}
 use Rattle.cv_parse_grammar.specs.declared.role.Asked.TheVariants.{AParam, AChannel, AnEvent}
 use Rattle.cv_parse_grammar.specs.declared.role.Role.{Role}
 use Rattle.cv_parse_grammar.specs.declared.role.Role.TheVariants.{Asks, AsksBound, AsksIndex, BindsIndex, BindsLocal, BindsVariable}

@@ -1,15 +1,13 @@
--- A phrase behind a word or symbol, and that a query is a tree that is there.
-use Rattle.std.proofs.Common.{◌≡◌, ◌≢◌, subst, ℕ, Bool, true, false, List, [], ◌++◌, drop, ap, sym, ◌∙◌}
-use Rattle.std.specs.Prelude.{Result, Ok, Err}
+-- A query is a tree that is there.
+use Rattle.std.proofs.Common.{◌≡◌, ◌≢◌, subst, ℕ, Bool, true, false, List, ◌++◌, ap, ◌∙◌}
+use Rattle.std.specs.Prelude.{Ok}
 use Rattle.cv_syntax_trees.specs.declared.head.Head.TheVariants.{Cons, Query as Correspondence, Secret, SecretOnce}
-use Rattle.cv_syntax.specs.declared.make.Make.{Make}
 use Rattle.cv_syntax_trees.specs.Tree.{Tree, Empty, Node, lone}
 use Rattle.cv_parse_notation.specs.declared.sign.Sign.{Sign}
-use Rattle.cv_parse_notation.specs.declared.sign.Mark.{Mark}
 use Rattle.cv_parse_notation.specs.declared.sign.Mark.TheVariants as mark
 use Rattle.cv_parse_notation.specs.Form.{either, made, note, sign, word, ◌&◌, ◌▸◌, ◌◂◌}
 use Rattle.cv_parse_notation.specs.Spells.{next_is, starts}
-use Rattle.cv_parse_notation.specs.Reads.{Found, Read, Reader, ◌>>=◌, found, joined, mapped, pick}
+use Rattle.cv_parse_notation.specs.Reads.{Found, Read, Reader, ◌>>=◌, joined, mapped, pick}
 use Rattle.cv_parse_notation.proofs.Sound.{bind_ok, same_found}
 use Rattle.cv_parse_grammar.specs.declared.role.Role.{Role}
 use Rattle.cv_parse_grammar.specs.declared.role.Role.TheVariants.{BindsLocal, Enters, Leaves, Unchecked}
@@ -17,21 +15,8 @@ use Rattle.cv_parse_grammar.specs.declared.role.Region.TheVariants.{InQuery}
 use Rattle.cv_parse_grammar.specs.Phrases.{Phrase, inside, listed, vars}
 use Rattle.cv_parse_grammar.specs.Rules.{heads}
 use Rattle.cv_parse_grammar.specs.Declarations.{correspondence, event, right_side, secrecy}
-use Rattle.cv_parse_terms.specs.declared.lookahead.ReadError.{ReadError}
-use Rattle.cv_parse_terms.specs.declared.trail.Trail.{Trail}
-use Rattle.cv_parse_terms.specs.Gives.{Fails, Makes, Stands, read_in}
-use Rattle.cv_parse_terms.proofs.Places.{fails_bind}
+use Rattle.cv_parse_terms.specs.Gives.{read_in}
 use Rattle.cv_parse_terms.proofs.Saying.{mapped_all, second_all}
-use Rattle.cv_parse_terms.proofs.Chains.{made_read, sign_both}
-
--- a word or symbol, and a phrase behind it
-pub behind_sign : {A : Type 0} (emit : A → List Make) (all : List Sign) (s t : Trail) (n at : ℕ) {k : ℕ} (m : Mark) (f : Phrase A) (r : Result ℕ ReadError) → Stands all m at k → Makes emit all s t r (read_in n f (drop k all)) → Makes emit all s t r (read_in n (m ▸ f) (drop at all))
-behind_sign emit all s t n at {k = k} m f (Ok end) st d = record { value = d.value; read = made_read (λ p. p.1) (sign_both m at k (read_in n f) st d.read); makes = d.makes }
-behind_sign emit all s t n at m f (Err e) st d =
-    fails_bind all e _ _
-    (subst (λ r. Fails all e (r >>= λ x. read_in n f x.rest >>= joined x)) (sym (st.2 ∙ ap (λ j. found tt [] (drop j all)) (sym st.0))) (fails_bind all e _ _ d))
-
--- a query is a tree that is there
 
 not_empty : {A : Type 0} (n : ℕ) (f : Phrase A) (g : A → Tree) → ((a : A) → g a ≢ Empty) → (ts : List Sign) (x : Found Role Tree) → read_in n (made g f) ts ≡ Ok x → x.value ≢ Empty
 not_empty n f g h ts x e i =

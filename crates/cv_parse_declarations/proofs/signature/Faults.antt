@@ -2,8 +2,8 @@
 use Rattle.std.proofs.Common.{ℕ, List, [], drop, ap, sym, ◌∙◌, subst}
 use Rattle.cv_parse_notation.specs.declared.sign.Sign.{Sign}
 use Rattle.cv_parse_notation.specs.declared.sign.Mark.{Mark}
-use Rattle.cv_parse_notation.specs.Form.{sign, ◌&◌, ◌▸◌, ◌◂◌}
-use Rattle.cv_parse_notation.specs.Reads.{◌>>=◌, found, joined, read_sign}
+use Rattle.cv_parse_notation.specs.Form.{◌&◌, ◌▸◌}
+use Rattle.cv_parse_notation.specs.Reads.{◌>>=◌, found, joined}
 use Rattle.cv_parse_grammar.specs.Phrases.{Phrase}
 use Rattle.cv_parse_terms.specs.declared.trail.NameUse.{NameUse}
 use Rattle.cv_parse_terms.specs.declared.lookahead.ReadError.{ReadError}
@@ -19,14 +19,3 @@ pub fails_behind_sign : {A : Type 0} {k : ℕ} (all : List Sign) (e : ReadError)
 fails_behind_sign all e n at m f s h =
     fails_bind all e _ _
     (subst (λ r. Fails all e (r >>= λ x. read_in n f x.rest >>= joined x)) (sym (s.2 ∙ ap (λ j. found tt [] (drop j all)) (sym s.0))) (fails_bind all e _ _ h))
-
--- between two words or symbols
-
-pub fails_to_open : {A : Type 0} (all : List Sign) (e : ReadError) (n at : ℕ) (m last : Mark) (f : Phrase A) → Fails all e (read_sign m (drop at all)) → Fails all e (read_in n (m ▸ f ◂ last) (drop at all))
-fails_to_open all e n at m last f h = fails_bind all e _ _ (fails_bind all e _ _ h)
-
-pub fails_between : {A : Type 0} {k : ℕ} (all : List Sign) (e : ReadError) (n at : ℕ) (m last : Mark) (f : Phrase A) → Stands all m at k → Fails all e (read_in n f (drop k all)) → Fails all e (read_in n (m ▸ f ◂ last) (drop at all))
-fails_between all e n at m last f s h = fails_behind_sign all e n at m (f ◂ last) s (fails_bind all e _ _ (fails_bind all e _ _ h))
-
-pub fails_to_close : {A : Type 0} {u v : List NameUse} {a : A} {k l : ℕ} (all : List Sign) (e : ReadError) (n at : ℕ) (m last : Mark) (f : Phrase A) → Stands all m at k → IsRead all u v (read_in n f (drop k all)) a l → Fails all e (read_sign last (drop l all)) → Fails all e (read_in n (m ▸ f ◂ last) (drop at all))
-fails_to_close {k = k} all e n at m last f s d h = fails_behind_sign all e n at m (f ◂ last) s (fails_bind all e _ _ (fails_second all e n k f (sign last) d h))

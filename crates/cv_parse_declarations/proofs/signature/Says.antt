@@ -172,8 +172,11 @@ says_event_decl n =
 says_some_vars : (n : ℕ) → Says n 150 (row_of 150) (vars BindsLocal ◂ mark.Semicolon) grows
 says_some_vars n = sign_behind mark.Semicolon (piece.Row 147 ∷ []) (row_says 150 147 (lit< tt) (says_local_vars n))
 
+pub says_some_forall : (n : ℕ) → Says n 151 (row_of 151) (mark.Forall ▸ (vars BindsLocal ◂ mark.Semicolon)) grows
+says_some_forall n = sign_before mark.Forall (piece.Row 150 ∷ []) (row_says 151 150 (lit< tt) (says_some_vars n))
+
 says_forall : (n : ℕ) → Says n 152 (piece.Choice (ahead.Mark mark.Forall) 151 54 ∷ []) forall_vars grows
-says_forall n = says_listed 152 (ahead.Mark mark.Forall) 151 (lit< tt) (lit< tt) (λ k. refl) (sign_before mark.Forall (piece.Row 150 ∷ []) (row_says 151 150 (lit< tt) (says_some_vars n)))
+says_forall n = says_listed 152 (ahead.Mark mark.Forall) 151 (lit< tt) (lit< tt) (λ k. refl) (says_some_forall n)
 
 closes_equation : (c : Tree × Tree) (q : Parts) → part (Over head.Forall) (grows c.1 (grows c.0 q)) ≡ grows (Node head.Forall c.0 c.1) q
 unfolding postorder

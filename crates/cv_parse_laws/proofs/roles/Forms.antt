@@ -9,7 +9,6 @@ use Rattle.cv_parse_grammar.specs.declared.role.Role.{Role}
 use Rattle.cv_parse_grammar.specs.Phrases.{Sort, or_else, after, row, bracket, square, inside}
 use Rattle.cv_parse_grammar.specs.yields.Yields.{IfThere}
 use Rattle.cv_parse_grammar.proofs.yields.Yielding.{Gives, anything, before, behind, follow, leveled, perhaps, several, turned}
-use Rattle.cv_parse_laws.proofs.WordRows.{else_is}
 
 -- what a tail makes of what has the property has it
 abbrev pub Tail : (Tree → Type 0) → (Tree → Tree) → Type 0
@@ -18,6 +17,11 @@ Tail p f = (t : Tree) → p t → p (f t)
 pub after_is : (p : Tree → Type 0) (t : Tree) → p t → (o : Option (Tree → Tree)) → IfThere (Tail p) o → p (after t o)
 after_is p t w None v = w
 after_is p t w (Some f) v = v t w
+
+-- of what may be missing
+pub else_is : {A : Type 0} (p : A → Type 0) (a : A) → p a → (o : Option A) → IfThere p o → p (or_else a o)
+else_is p a w None v = w
+else_is p a w (Some b) v = v
 
 module _ {W : Role → ℕ → Type 0} {P : Sort → Tree → Type 0} where
   pub in_row : {A : Type 0} {m : Mark} {f : Form Role Sort A} {p : A → Type 0} → Gives W P f p → Gives W P (row m f) (AllByRecursion p)

@@ -16,9 +16,9 @@ use Rattle.cv_scope_rules.specs.typing.Wants.{Atoms}
 use Rattle.cv_syntax.specs.faults.Walk.{IsObeyed}
 use Rattle.cv_derive_laws.specs.stores.Truth.{is_name_of}
 use Rattle.cv_query.specs.kinds.Closed.{AreClosedAtoms, HasClosedQueries, IsClosedAtom, IsClosedQuery, IsKnown}
-use Rattle.cv_parse_sorts.proofs.queries.Typed.{D, IsUsed, named_locally, term_closed, terms_closed, typed_split, used_functions}
+use Rattle.cv_parse_sorts.proofs.Typed.{D, IsUsed, named_locally, term_closed, terms_closed, typed_split, used_functions}
 use Rattle.cv_parse_sorts.proofs.queries.Names.{IfNamed, IsNamedQuery, read_queries}
-use Rattle.cv_parse_sorts.proofs.queries.Terms.{AreAtomsOver, IsAtomOver}
+use Rattle.cv_parse_sorts.proofs.Terms.{AreAtomsOver, IsAtomOver}
 
 module _ (ts : List Sign) (ds : List Declaration) (s : Option (ℕ × ℕ)) (g : Tree) (r : IsRead ts ds s g) where
   abbrev E : List Declaration

@@ -15,10 +15,10 @@ use Rattle.cv_parse_notation.specs.Spells.{Each, IsSort, Relation, Spells, Use, 
 use Rattle.cv_parse_grammar.specs.declared.role.Asked.TheVariants.{AFunction}
 use Rattle.cv_parse_grammar.specs.declared.role.Region.TheVariants.{InQuery}
 use Rattle.cv_parse_grammar.specs.declared.role.Role.{Role}
-use Rattle.cv_parse_grammar.specs.declared.role.Role.TheVariants.{Asks, BindsLocal, Mentions, AsCall, AsArray, AsBare, Enters}
+use Rattle.cv_parse_grammar.specs.declared.role.Role.TheVariants.{Asks, BindsLocal, Mentions, AsCall, AsArray, AsBare}
 use Rattle.cv_parse_grammar.specs.Declarations.{constant, correspondence, declaration, event, named, query_decl, right_side, secrecy}
 use Rattle.cv_parse_grammar.specs.Files.{levels}
-use Rattle.cv_parse_grammar.specs.Names.{Uses, as_bare, as_call, binds, declares_as, is_function, is_own, is_used, known_in, obeys, own_from, part_from}
+use Rattle.cv_parse_grammar.specs.Names.{Uses, as_bare, as_call, binds, declares_as, is_function, is_own, is_used, known_in, obeys}
 use Rattle.cv_parse_grammar.specs.Phrases.{Phrase, Sort, listed, vars}
 use Rattle.cv_parse_grammar.specs.Phrases as sort
 use Rattle.cv_parse_grammar.specs.Rules.{File, heads, rule}
@@ -27,10 +27,9 @@ use Rattle.cv_parse_grammar.specs.yields.Yields.{AllUsed}
 use Rattle.cv_parse_grammar.proofs.yields.Naming.{all_used}
 use Rattle.cv_parse_grammar.proofs.yields.Yielding.{Gives, anything, behind, follow, forms_tell, weaker}
 use Rattle.cv_derive_laws.specs.stores.Truth.{is_name_of}
-use Rattle.cv_parse_sorts.proofs.queries.Terms.{AreAtomsOver, Mentioned, OfTerms, of_right_side, term_rows}
-use Rattle.cv_parse_sorts.proofs.queries.Parts.{AreBinders, Spelled, only_front, vars_bind}
+use Rattle.cv_parse_sorts.proofs.Terms.{AreAtomsOver, Mentioned, OfTerms, of_right_side, term_rows}
 use Rattle.cv_parse_laws.proofs.roles.UsedRoles.{IsIn, form_uses, has_roles, sort_uses}
-use Rattle.cv_parse_sorts.proofs.Equations.{IsInside, all_inside, binder_inside, is_of_binder, is_of_term, is_term_sort, no_sorts, own_append, own_kept, part_append, part_kept, term_inside}
+use Rattle.cv_parse_sorts.proofs.Parts.{AreBinders, IsInside, Spelled, all_inside, binder_inside, enters, is_of_binder, is_of_term, is_term_sort, no_sorts, only_front, own_there, part_there, term_inside, vars_bind}
 
 -- the left event and the right side of a correspondence
 abbrev sides : Phrase (Tree × Tree)
@@ -66,17 +65,6 @@ side_inside u e = go u.role refl e
     go : (r : Role) → u.role ≡ r → is_of_side r ≡ true → IsInside u
     go (Asks a) f e = binder_inside u (ap is_of_binder f)
     go r f e = term_inside u (ap is_of_term f ∙ e)
-
-abbrev enters : ℕ → Use Role
-enters n = record { role = Enters InQuery; name = 0; left = n }
-
-part_there : (before us : Uses) (n : ℕ) → AllByRecursion IsInside us → part_from None (before ++ enters n ∷ us) ≡ Some InQuery
-unfolding part_from
-part_there before us n w = part_append None before (enters n ∷ us) ∙ part_kept (Some InQuery) us w
-
-own_there : (before us : Uses) (n : ℕ) → AllByRecursion IsInside us → own_from [] (before ++ enters n ∷ us) ≡ us
-unfolding own_from
-own_there before us n w = own_append [] before (enters n ∷ us) ∙ own_kept [] us w
 
 -- a side binds no name
 binds_none : (x : ℕ) (us : Uses) → AllUsed (IsIn is_of_side no_sorts) us → is_used binds x us ≡ false
@@ -143,7 +131,7 @@ module _ (below : Sort → Relation Role Tree) (room : Bool) where
     left : ℕ
     inner : Uses
     behind : Uses
-    split : us ≡ enters left ∷ (inner ++ behind)
+    split : us ≡ enters InQuery left ∷ (inner ++ behind)
     start : List Sign
     end : List Sign
     spelled : Spelled below room (either secrecy correspondence) start value inner end
@@ -165,8 +153,8 @@ module _ (below : Sort → Relation Role Tree) (room : Bool) where
             one.uses
             ∙ (ap (λ z. z ++ one.back) one.first.uses
             ∙ (two.uses
-            ∙ (ap (λ z. z ++ two.back) (three.uses ∙ (ap (λ z. z ++ three.back) three.first.1.uses ∙ ap (λ z. enters (length one.mid) ∷ z) four.uses))
-            ∙ ap (λ z. enters (length one.mid) ∷ z) (append_assoc four.front four.back two.back))));
+            ∙ (ap (λ z. z ++ two.back) (three.uses ∙ (ap (λ z. z ++ three.back) three.first.1.uses ∙ ap (λ z. enters InQuery (length one.mid) ∷ z) four.uses))
+            ∙ ap (λ z. enters InQuery (length one.mid) ∷ z) (append_assoc four.front four.back two.back))));
         start = three.mid;
         end = four.mid;
         spelled = four.first;
@@ -208,7 +196,7 @@ module _ (ts : List Sign) (ds : List Declaration) (s : Option (ℕ × ℕ)) (g :
   abbrev below : Sort → Relation Role Tree
   below s = IsSort heads rule levels s
 
-  module _ (before behind : Uses) (n : ℕ) (v : Tree) (us : Uses) (split : W ≡ before ++ (enters n ∷ (us ++ behind))) (w : IsQuery below true v us) where
+  module _ (before behind : Uses) (n : ℕ) (v : Tree) (us : Uses) (split : W ≡ before ++ (enters InQuery n ∷ (us ++ behind))) (w : IsQuery below true v us) where
     in_parts : us ++ behind ≡ w.bound ++ (w.used ++ behind)
     in_parts = ap (λ z. z ++ behind) w.split ∙ append_assoc w.bound w.used behind
 
@@ -223,7 +211,7 @@ module _ (ts : List Sign) (ds : List Declaration) (s : Option (ℕ × ℕ)) (g :
 
     module _ (pre : Uses) (u : Use Role) (post : Uses) (e : w.used ≡ pre ++ u ∷ post) where
       abbrev earlier : Uses
-      earlier = before ++ enters n ∷ (w.bound ++ pre)
+      earlier = before ++ enters InQuery n ∷ (w.bound ++ pre)
 
       pre_used : AllUsed (IsIn is_of_side is_side_sort) pre
       pre_used = AllByRecursion_left (λ (v : Use Role). is_of_side v.role ≡ true) pre (u ∷ post) (subst (AllUsed (IsIn is_of_side is_side_sort)) e side_used)
@@ -234,11 +222,11 @@ module _ (ts : List Sign) (ds : List Declaration) (s : Option (ℕ × ℕ)) (g :
       use_split : W ≡ earlier ++ u ∷ (post ++ behind)
       use_split =
           split
-          ∙ (ap (λ z. before ++ enters n ∷ z) (in_parts ∙ (ap (λ z. w.bound ++ (z ++ behind)) e ∙ (ap (λ z. w.bound ++ z) (append_assoc pre (u ∷ post) behind) ∙ sym (append_assoc w.bound pre (u ∷ (post ++ behind))))))
-          ∙ sym (append_assoc before (enters n ∷ (w.bound ++ pre)) (u ∷ (post ++ behind))))
+          ∙ (ap (λ z. before ++ enters InQuery n ∷ z) (in_parts ∙ (ap (λ z. w.bound ++ (z ++ behind)) e ∙ (ap (λ z. w.bound ++ z) (append_assoc pre (u ∷ post) behind) ∙ sym (append_assoc w.bound pre (u ∷ (post ++ behind))))))
+          ∙ sym (append_assoc before (enters InQuery n ∷ (w.bound ++ pre)) (u ∷ (post ++ behind))))
 
       known : (x : ℕ) → obeys earlier Mentions x (post ++ behind) ≡ true → Known w.binders x
-      known x o = go (or_cases _ (not (as_call (post ++ behind)) && is_own earlier x) (sym (ap (λ p. known_in p earlier (post ++ behind) x) (part_there before (w.bound ++ pre) n inside)) ∙ o))
+      known x o = go (or_cases _ (not (as_call (post ++ behind)) && is_own earlier x) (sym (ap (λ p. known_in p earlier (post ++ behind) x) (part_there InQuery before (w.bound ++ pre) n inside)) ∙ o))
         where
           own : (is_used binds x w.bound ≡ true) ⊎ (is_used binds x pre ≡ true) → Known w.binders x
           own (inl k) = inl (binding.2 x k)
@@ -250,7 +238,7 @@ module _ (ts : List Sign) (ds : List Declaration) (s : Option (ℕ × ℕ)) (g :
               inr (ap (is_used (declares_as AFunction) x) use_split ∙ (list_any-append (λ v. declares_as AFunction v.role && (v.name == x)) earlier (u ∷ (post ++ behind)) ∙ or_left (is_function earlier x) _ f))
           go (inr k) =
               let o : is_own earlier x ≡ true = (and_parts (not (as_call (post ++ behind))) _ k).1 in
-              own (or_cases (is_used binds x w.bound) (is_used binds x pre) (sym (ap (is_used binds x) (own_there before (w.bound ++ pre) n inside) ∙ list_any-append (λ v. binds v.role && (v.name == x)) w.bound pre) ∙ o))
+              own (or_cases (is_used binds x w.bound) (is_used binds x pre) (sym (ap (is_used binds x) (own_there InQuery before (w.bound ++ pre) n inside) ∙ list_any-append (λ v. binds v.role && (v.name == x)) w.bound pre) ∙ o))
 
       told : (role : Role) (x : ℕ) → obeys earlier role x (post ++ behind) ≡ true → Mentioned (Known w.binders) role x
       told Mentions x o = known x o
@@ -277,8 +265,8 @@ module _ (ts : List Sign) (ds : List Declaration) (s : Option (ℕ × ℕ)) (g :
   asked_named : (before behind : Uses) (b : List Declaration) (us : Uses) → W ≡ before ++ (us ++ behind) → IsAsked below true b us → AreNamedQueries b
   asked_named before behind b us split w = subst AreNamedQueries w.is (go w.spelled, tt)
     where
-      in_region : W ≡ before ++ (enters w.left ∷ (w.inner ++ (w.behind ++ behind)))
-      in_region = split ∙ ap (λ z. before ++ z) (ap (λ z. z ++ behind) w.split ∙ ap (λ z. enters w.left ∷ z) (append_assoc w.inner w.behind behind))
+      in_region : W ≡ before ++ (enters InQuery w.left ∷ (w.inner ++ (w.behind ++ behind)))
+      in_region = split ∙ ap (λ z. before ++ z) (ap (λ z. z ++ behind) w.split ∙ ap (λ z. enters InQuery w.left ∷ z) (append_assoc w.inner w.behind behind))
 
       no_correspondence : Spelled below true secrecy w.start w.value w.inner w.end → (bs sides : Tree) → w.value ≡ Node Correspondence bs sides → ⊥
       no_correspondence (inl d) bs sides e = no_secret d.0 bs sides (d.2 ∙ e)

@@ -1,6 +1,6 @@
 use Rattle.std.proofs.lemmas.Result.{err_from_is_err_and}
-use Rattle.std.proofs.Common.{ℕ, ◌∷◌, [], List, drop}
-use Rattle.cv_syntax_trees.specs.Tree.{Tree, Node, binders}
+use Rattle.std.proofs.Common.{ℕ, ◌∷◌, [], List, drop, ◌∙◌}
+use Rattle.cv_syntax_trees.specs.Tree.{Tree, Node}
 use Rattle.cv_syntax_trees.specs.Declarations.{Equiv}
 use Rattle.cv_syntax_trees.specs.declared.head.Head.TheVariants.{Equivalence}
 use Rattle.cv_parse_notation.specs.Form.{note, ◌&◌, ◌▸◌, ◌◂◌}
@@ -18,7 +18,7 @@ use Rattle.cv_parse_terms.specs.Gives.{Fails, IsRead, read_in, read_note}
 use Rattle.cv_parse_terms.proofs.Chains.{both_read, made_read, sign_both}
 use Rattle.cv_parse_terms.proofs.Places.{fails_bind}
 use Rattle.cv_parse_declarations.proofs.signature.Faults.{fails_behind_sign, fails_second}
-use Rattle.cv_parse_declarations.proofs.signature.Gathering.{over_both}
+use Rattle.cv_parse_declarations.proofs.signature.Gathering.{groups_made, kept, taken_away}
 use Rattle.cv_parse_declarations.proofs.signature.Listed.{is_there, one_made}
 use Rattle.cv_parse_declarations.proofs.signature.collisions.collision_decl.Goals as goal
 
@@ -36,13 +36,14 @@ fails_inside {k = k} all e n at name enters h =
 
 pub returns : goal.returns
 returns c =
+    let k = c.in_ok-place-2.ensures.makes in
+    let start = c.len-start.ensures ∙ c.args.trail.now.makes.ok.0 in
     let d = c.in_ok-bound.ensures.makes in
     let p = c.in_ok-bound.bound in
     let x = c.in_ok-name.name in
-    let key = c.in_ok-key.key in
     let n = c.args.depth in
-    let l = lone_group x key (binders d.args) d.left in
-    let r = lone_group x key (binders d.args) d.right in
+    let l = lone_group x k.value d.args d.left in
+    let r = lone_group x k.value d.args d.right in
     let t = Node (Equivalence p) l r in
     record {
       declares = record {
@@ -54,45 +55,17 @@ returns c =
             (both_read (read_in n (body & note Leaves)) c.in_ok-note.ensures.gives
             (both_read (read_note Leaves)
             (made_read (λ p. p.1) (sign_both mark.New _ _ (read_in n (typed BindsLocal & (mark.Semicolon ▸ terms))) c.in_ok-place.ensures.read
-            (both_read (read_in n (mark.Semicolon ▸ terms)) c.in_ok-key.ensures.gives
-            (made_read (λ p. p.1) (sign_both mark.Semicolon _ _ (read_in n terms) c.in_ok-place-2.ensures.read d.read)))))
+            (both_read (read_in n (mark.Semicolon ▸ terms)) k.read
+            (made_read (λ p. p.1) (sign_both mark.Semicolon _ _ (read_in n terms) c.in_ok-place-3.ensures.read d.read)))))
             c.in_ok-note-2.ensures.gives))));
         heard = c.in_ok-push-2.ensures.items;
-        makes = one_made (Equiv x t) _ _ (over_both p l r _ _ _ d.makes c.in_ok-push.ensures.items);
+        makes =
+            one_made (Equiv x t) _ _
+            (groups_made x p k.value c.deref.result.now d.args d.left d.right _ _ _ _
+            (c.deref.ensures.value ∙ (c.in_ok-key.ensures.tail ∙ taken_away _ _ _ _ start k.makes))
+            (c.in_ok-key.ensures.items ∙ kept _ _ _ _ start k.makes) d.makes c.in_ok-push.ensures.items);
         whole = (is_there (Equivalence p) l r, tt);
       };
-    }
-
-pub returns-in_err-name : goal.returns-in_err-name
-returns-in_err-name c =
-    let p = err_from_is_err_and c.from_residual.result c.from_residual.ensures.1 in
-    record { declares = rw (p.1, p.2) (fails_bind c.args.signs.now _ _ _ (fails_bind c.args.signs.now _ _ _ c.in_err-name.ensures.gives)) }
-
-pub returns-in_err-place : goal.returns-in_err-place
-returns-in_err-place c =
-    let p = err_from_is_err_and c.from_residual-in_err-place.result c.from_residual-in_err-place.ensures.1 in
-    record {
-      declares = rw (p.1, p.2) (fails_inside c.args.signs.now _ c.args.depth c.args.at c.in_ok-name.ensures.gives c.in_ok-note.ensures.gives
-          (fails_bind c.args.signs.now _ _ _ (fails_bind c.args.signs.now _ _ _ c.in_err-place.ensures.fails)));
-    }
-
-pub returns-in_err-key : goal.returns-in_err-key
-returns-in_err-key c =
-    let p = err_from_is_err_and c.from_residual-in_err-key.result c.from_residual-in_err-key.ensures.1 in
-    record {
-      declares = rw (p.1, p.2) (fails_inside c.args.signs.now _ c.args.depth c.args.at c.in_ok-name.ensures.gives c.in_ok-note.ensures.gives
-          (fails_behind_sign c.args.signs.now _ c.args.depth _ mark.New (typed BindsLocal & (mark.Semicolon ▸ terms)) c.in_ok-place.ensures.read
-          (fails_bind c.args.signs.now _ _ _ c.in_err-key.ensures.gives)));
-    }
-
-pub returns-in_err-place-2 : goal.returns-in_err-place-2
-returns-in_err-place-2 c =
-    let p = err_from_is_err_and c.from_residual-in_err-place-2.result c.from_residual-in_err-place-2.ensures.1 in
-    record {
-      declares = rw (p.1, p.2) (fails_inside c.args.signs.now _ c.args.depth c.args.at c.in_ok-name.ensures.gives c.in_ok-note.ensures.gives
-          (fails_behind_sign c.args.signs.now _ c.args.depth _ mark.New (typed BindsLocal & (mark.Semicolon ▸ terms)) c.in_ok-place.ensures.read
-          (fails_second c.args.signs.now _ c.args.depth _ (typed BindsLocal) (mark.Semicolon ▸ terms) c.in_ok-key.ensures.gives
-          (fails_bind c.args.signs.now _ _ _ (fails_bind c.args.signs.now _ _ _ c.in_err-place-2.ensures.fails)))));
     }
 
 pub returns-in_err-bound : goal.returns-in_err-bound
@@ -101,6 +74,6 @@ returns-in_err-bound c =
     record {
       declares = rw (p.1, p.2) (fails_inside c.args.signs.now _ c.args.depth c.args.at c.in_ok-name.ensures.gives c.in_ok-note.ensures.gives
           (fails_behind_sign c.args.signs.now _ c.args.depth _ mark.New (typed BindsLocal & (mark.Semicolon ▸ terms)) c.in_ok-place.ensures.read
-          (fails_second c.args.signs.now _ c.args.depth _ (typed BindsLocal) (mark.Semicolon ▸ terms) c.in_ok-key.ensures.gives
-          (fails_behind_sign c.args.signs.now _ c.args.depth _ mark.Semicolon terms c.in_ok-place-2.ensures.read c.in_err-bound.ensures.makes))));
+          (fails_second c.args.signs.now _ c.args.depth _ (typed BindsLocal) (mark.Semicolon ▸ terms) c.in_ok-place-2.ensures.makes.read
+          (fails_behind_sign c.args.signs.now _ c.args.depth _ mark.Semicolon terms c.in_ok-place-3.ensures.read c.in_err-bound.ensures.makes))));
     }

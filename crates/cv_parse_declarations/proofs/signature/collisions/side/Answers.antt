@@ -4,5 +4,4 @@ use Rattle.cv_parse_declarations.proofs.signature.collisions.side.Goals as goal
 pub returns : goal.returns
 returns c =
     let t = c.in_ok-place.ensures.makes in
-    let k = c.args.collision in
-    record { makes = record { value = t.value; read = t.read; makes = side_made k.name k.key c.args.args.now t.value _ _ _ _ c.in_ok-make_before.ensures t.makes c.in_ok-make_behind.ensures } }
+    record { makes = record { value = t.value; read = t.read; makes = side_made c.args.name c.args.key.now c.args.args.now t.value _ _ _ _ c.in_ok-make_before.ensures t.makes c.in_ok-make_behind.ensures } }

@@ -1,18 +1,22 @@
-use Rattle.cv_parse_declarations.proofs.signature.Gathering.{both_sides, terms_read}
+use Rattle.std.proofs.Common.{◌∙◌}
+use Rattle.cv_parse_declarations.proofs.signature.Gathering.{both_sides, kept, taken_away, terms_read}
 use Rattle.cv_parse_declarations.proofs.signature.collisions.terms.Goals as goal
 
 pub returns : goal.returns
 returns c =
-    let k = c.args.collision in
-    let args = c.in_ok-args.args.items in
-    let l = c.in_ok-place.ensures.makes in
-    let r = c.in_ok-place-2.ensures.makes in
+    let v = c.in_ok-place.ensures.makes in
+    let l = c.in_ok-place-2.ensures.makes in
+    let r = c.in_ok-place-3.ensures.makes in
+    let start = c.len-start.ensures ∙ c.args.trail.now.makes.ok.0 in
+    let args = c.in_ok-args.ensures.tail ∙ taken_away _ _ _ _ start v.makes in
     record {
       makes = record {
-        args = args;
+        args = v.value;
         left = l.value;
         right = r.value;
-        read = terms_read c.args.depth c.args.at c.in_ok-args.ensures.gives l.read c.in_ok-bound.ensures.gives r.read c.in_ok-place-3.ensures.read;
-        makes = both_sides k.name k.key _ _ args l.value r.value _ _ _ l.makes r.makes c.deref.ensures.value c.deref-2.ensures.value;
+        read = terms_read c.args.depth c.args.at v.read l.read c.in_ok-bound.ensures.gives r.read c.in_ok-place-4.ensures.read;
+        makes =
+            both_sides c.args.name c.args.key.now c.deref.result.now c.deref-2.result.now v.value l.value r.value _ _ _ _ _
+            (c.deref.ensures.value ∙ args) (c.deref-2.ensures.value ∙ args) (c.in_ok-args.ensures.items ∙ kept _ _ _ _ start v.makes) l.makes c.in_ok-bound.ensures.makes r.makes;
       };
     }

@@ -1,5 +1,5 @@
 -- Uses of names that neither begin nor end a part of a file, and what binders bind among them.
-use Rattle.std.proofs.Common.{◌≡◌, ℕ, Bool, true, false, ◌==◌, ◌&&◌, ◌||◌, not, List, [], ◌∷◌, ◌++◌, append_assoc, ◌⊎◌, inl, inr, Option, refl, ap, sym, subst, ◌∙◌}
+use Rattle.std.proofs.Common.{◌≡◌, ℕ, Bool, true, false, ◌==◌, ◌&&◌, ◌||◌, not, List, [], ◌∷◌, ◌++◌, append_assoc, ◌⊎◌, inl, inr, Option, Some, None, refl, ap, sym, subst, ◌∙◌}
 use Rattle.std.proofs.lemmas.Bool.{both_ways, or_cases, or_left, or_right}
 use Rattle.std.proofs.lemmas.List.Folds.{list_any-append}
 use Rattle.std.specs.List.{AllByRecursion}
@@ -18,9 +18,59 @@ use Rattle.cv_parse_grammar.specs.Rules.{heads}
 use Rattle.cv_parse_grammar.specs.yields.Yields.{AllUsed}
 use Rattle.cv_derive_laws.specs.stores.Truth.{is_name_of}
 use Rattle.cv_parse_laws.proofs.roles.UsedRoles.{IsIn, form_uses}
-use Rattle.cv_parse_sorts.proofs.Equations.{or_alone, is_term_sort, term_inside, binder_inside, asks_bind_none, is_of_term, own_kept, is_of_binder, part_kept, own_append, all_inside, no_sorts, IsInside}
 
 -- roles
+
+abbrev pub is_of_term : Role → Bool
+is_of_term Mentions = true
+is_of_term AsCall = true
+is_of_term AsArray = true
+is_of_term AsBare = true
+is_of_term r = false
+
+abbrev pub is_of_binder : Role → Bool
+is_of_binder BindsLocal = true
+is_of_binder (Asks a) = true
+is_of_binder r = false
+
+abbrev pub is_term_sort : Sort → Bool
+is_term_sort sort.Term = true
+is_term_sort sort.Conjunction = true
+is_term_sort sort.Primary = true
+is_term_sort sort.Unequal = true
+is_term_sort sort.Parentheses = true
+is_term_sort sort.Arguments = true
+is_term_sort sort.Subscript = true
+is_term_sort s = false
+
+abbrev pub no_sorts : Sort → Bool
+no_sorts s = false
+
+-- a use that neither begins nor ends a part
+abbrev pub IsInside : Use Role → Type 0
+IsInside u = ((p : Option Region) → part_after p u.role ≡ p) × ((seen : Uses) → since seen u ≡ seen ++ u ∷ [])
+
+pub term_inside : (u : Use Role) → is_of_term u.role ≡ true → IsInside u
+term_inside u e = go u.role refl e
+  where
+    go : (r : Role) → u.role ≡ r → is_of_term r ≡ true → IsInside u
+    go Mentions f e = ((λ p. ap (part_after p) f), (λ seen. ap (λ r. elim r [ Enters q ↦ [] | r ↦ seen ++ u ∷ [] ]) f))
+    go AsCall f e = ((λ p. ap (part_after p) f), (λ seen. ap (λ r. elim r [ Enters q ↦ [] | r ↦ seen ++ u ∷ [] ]) f))
+    go AsArray f e = ((λ p. ap (part_after p) f), (λ seen. ap (λ r. elim r [ Enters q ↦ [] | r ↦ seen ++ u ∷ [] ]) f))
+    go AsBare f e = ((λ p. ap (part_after p) f), (λ seen. ap (λ r. elim r [ Enters q ↦ [] | r ↦ seen ++ u ∷ [] ]) f))
+    go r f e = absurd (both_ways false refl e)
+
+pub binder_inside : (u : Use Role) → is_of_binder u.role ≡ true → IsInside u
+binder_inside u e = go u.role refl e
+  where
+    go : (r : Role) → u.role ≡ r → is_of_binder r ≡ true → IsInside u
+    go BindsLocal f e = ((λ p. ap (part_after p) f), (λ seen. ap (λ r. elim r [ Enters q ↦ [] | r ↦ seen ++ u ∷ [] ]) f))
+    go (Asks a) f e = ((λ p. ap (part_after p) f), (λ seen. ap (λ r. elim r [ Enters q ↦ [] | r ↦ seen ++ u ∷ [] ]) f))
+    go r f e = absurd (both_ways false refl e)
+
+pub all_inside : (p : Role → Bool) → ((u : Use Role) → p u.role ≡ true → IsInside u) → (us : Uses) → AllUsed (IsIn p no_sorts) us → AllByRecursion IsInside us
+all_inside p f [] w = tt
+all_inside p f (u ∷ us) w = (f u w.0, all_inside p f us w.1)
 
 -- the part that is open, and what was used there
 
@@ -28,6 +78,48 @@ pub part_append : (p : Option Region) (us vs : Uses) → part_from p (us ++ vs) 
 unfolding part_from
 part_append p [] vs = refl
 part_append p (u ∷ us) vs = part_append (part_after p u.role) us vs
+
+pub part_kept : (p : Option Region) (us : Uses) → AllByRecursion IsInside us → part_from p us ≡ p
+unfolding part_from
+part_kept p [] w = refl
+part_kept p (u ∷ us) w = ap (λ q. part_from q us) (w.0.0 p) ∙ part_kept p us w.1
+
+pub own_append : (seen us vs : Uses) → own_from seen (us ++ vs) ≡ own_from (own_from seen us) vs
+unfolding own_from
+own_append seen [] vs = refl
+own_append seen (u ∷ us) vs = own_append (since seen u) us vs
+
+pub own_kept : (seen us : Uses) → AllByRecursion IsInside us → own_from seen us ≡ seen ++ us
+unfolding own_from
+own_kept [] [] w = refl
+own_kept (s ∷ seen) [] w = ap (λ l. s ∷ l) (own_kept seen [] w)
+own_kept seen (u ∷ us) w = ap (λ l. own_from l us) (w.0.1 seen) ∙ (own_kept (seen ++ u ∷ []) us w.1 ∙ append_assoc seen (u ∷ []) us)
+
+-- behind the beginning of a part
+
+abbrev pub enters : Region → ℕ → Use Role
+enters q n = record { role = Enters q; name = 0; left = n }
+
+pub part_there : (q : Region) (before us : Uses) (n : ℕ) → AllByRecursion IsInside us → part_from None (before ++ enters q n ∷ us) ≡ Some q
+unfolding part_from
+part_there q before us n w = part_append None before (enters q n ∷ us) ∙ part_kept (Some q) us w
+
+pub own_there : (q : Region) (before us : Uses) (n : ℕ) → AllByRecursion IsInside us → own_from [] (before ++ enters q n ∷ us) ≡ us
+unfolding own_from
+own_there q before us n w = own_append [] before (enters q n ∷ us) ∙ own_kept [] us w
+
+-- names that are asked for bind none
+pub asks_bind_none : (x : ℕ) (us : Uses) → AllUsed (IsIn (λ r. not (binds r)) no_sorts) us → is_used binds x us ≡ false
+asks_bind_none x [] w = refl
+asks_bind_none x (u ∷ us) w = go (binds u.role) refl w.0 (asks_bind_none x us w.1)
+  where
+    go : (b : Bool) → binds u.role ≡ b → not b ≡ true → is_used binds x us ≡ false → ((binds u.role && (u.name == x)) || is_used binds x us) ≡ false
+    go true e n f = absurd (both_ways false refl n)
+    go false e n f = ap (λ b. (b && (u.name == x)) || is_used binds x us) e ∙ f
+
+pub or_alone : (b c : Bool) → ((b || false) || c) ≡ true → (b || c) ≡ true
+or_alone true c e = refl
+or_alone false c e = e
 
 -- what a row of binders binds
 

@@ -15,7 +15,10 @@ use Rattle.cv_parse_grammar.specs.Terms.{terms, arguments, subscript, parenthese
 use Rattle.cv_parse_grammar.specs.yields.Yields.{Yields}
 use Rattle.cv_parse_grammar.proofs.yields.Yielding.{Gives, a_word, anything, before, behind, below, follow, leveled, one_of, perhaps, several, turned, weaker}
 use Rattle.cv_parse_laws.proofs.roles.Forms.{Tail, after_is, bracketed, in_row, or_this, squared}
-use Rattle.cv_parse_sorts.proofs.EquationTerms.{IsSome}
+
+abbrev pub IsSome : Tree → Type 0
+IsSome Empty = ⊥
+IsSome t = Unit {0}
 
 -- a term with bare names of L
 abbrev mutual

@@ -29,7 +29,7 @@ use Rattle.cv_syntax.specs.faults.Walk.{IsObeyed}
 use Rattle.cv_derive_laws.specs.stores.Truth.{AreOver, IsOver, is_name_of}
 use Rattle.cv_parse_laws.proofs.roles.Constants.{is_constant, kind_of, only_declaration}
 use Rattle.cv_parse_laws.proofs.roles.Declared.{Used, function_declared}
-use Rattle.cv_parse_sorts.proofs.queries.Terms.{AreTermsOver, IsTermOver}
+use Rattle.cv_parse_sorts.proofs.Terms.{AreTermsOver, IsTermOver}
 use Rattle.cv_parse_laws.proofs.roles.Games.{kinds}
 
 -- a function that is declared, which is a constant where it has no arguments
