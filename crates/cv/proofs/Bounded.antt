@@ -1,9 +1,10 @@
 -- The calls of each step's context are bounded by its line: the context is that of a game that nothing refuses.
-use Rattle.std.proofs.Common.{◌≡◌, ℕ, zero, suc, List, [], ◌∷◌, ◌++◌, length, map, drop, take, refl, ap, sym, ◌∙◌, subst, Option, Some, None, Ok, ◌≤◌, inl, inr}
+use Rattle.std.proofs.Common.{◌≡◌, ℕ, zero, suc, List, [], ◌∷◌, ◌++◌, length, drop, take, refl, ap, sym, ◌∙◌, subst, Option, Some, None, Ok, ◌≤◌, inl, inr}
 use Rattle.std.specs.Prelude.{IfSome, MatchOption, option_map, slice_get}
 use Rattle.cv_syntax.specs.declared.work.File.{File}
 use Rattle.cv_syntax_trees.specs.Declarations.{Declaration}
 use Rattle.cv_syntax_trees.specs.Tree.{Tree}
+use Rattle.cv_library.specs.Givens.{Given}
 use Rattle.cv_accept.specs.Accepted.{Content, most_bytes, most_pool, read_of}
 use Rattle.cv_sequences.proofs.files.Ready.{file_of}
 use Rattle.cv_context.specs.declared.products.shape.Shape.{Shape as ShapeInCode}
@@ -106,9 +107,9 @@ AreBoundedCalls r f =
     (k : ℕ) (e : Entry) (h : ShapeInCode) → slice_get r.trail.items k ≡ Some e → e.context ≡ Some h
     → MatchOption (context_of (contexts_in r) (suc k)) ⊥ (AreBounded (declared_in r) (shape_in h))
 
-module _ (holds : (ds : List Declaration) → DerivationsHold ds) (unreached : (ds : List Declaration) → DerivedBodiesAreUnreached ds) (c : Content) (f : File) (r : Report) (bytes : List ℕ) (reads : read_of most_pool bytes ≡ Ok c) (few : length bytes ≤ most_bytes) where
+module _ (holds : (ds : List Declaration) → DerivationsHold ds) (unreached : (ds : List Declaration) → DerivedBodiesAreUnreached ds) (c : Content) (f : File) (r : Report) (source : Given) (reads : read_of most_pool source ≡ Ok c) (few : length source.bytes ≤ most_bytes) where
   content_bounds : HasBoundsFrom c.declarations c.own c.game
-  content_bounds = bounded c.declarations c.own c.game (file_of bytes c reads holds unreached few)
+  content_bounds = bounded c.declarations c.own c.game (file_of source c reads holds unreached few)
 
   steps_calls : r.file ≡ Some f → file_in r f (length c.names) ≡ c → TakesSteps r f → AreBoundedCalls r f
   steps_calls there held w k e h at e₁ =

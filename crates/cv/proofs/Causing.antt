@@ -4,7 +4,6 @@ use Rattle.std.proofs.lemmas.Bool.Decides.{nat_tests}
 use Rattle.std.proofs.lemmas.List.{length-map}
 use Rattle.std.specs.List.{list_all}
 use Rattle.std.specs.Prelude.{IfSome, IsNone, IsSome, IsSomeAnd}
-use Rattle.cv_lex.specs.declared.LexError.{LexError}
 use Rattle.cv_lex.specs.Lexis.{Token, tokens_of}
 use Rattle.cv_parse_tables.specs.terminals.Signs.{signs_of}
 use Rattle.cv_script.specs.declared.reader.error.ScriptError.{ScriptError}
@@ -31,24 +30,26 @@ use Rattle.cv_scope_rules.specs.declared.typing.fault.TypeFault.{TypeFault}
 use Rattle.cv_scope_rules.specs.typing.Parts.{IsFirstIn, Part, file_parts}
 use Rattle.cv_scope_rules.specs.typing.Refusals.{IsFirstRefusal, refusal}
 use Rattle.cv_scope_rules.proofs.typing.First.{finds_first_in, parts_typed_where_none}
-use Rattle.cv_scope_rules.specs.declared.fault.Fault.{Fault as ScopeRules}
 use Rattle.cv_scope_rules.specs.declared.fault.ScopeFault.{ScopeFault}
 use Rattle.cv_scope_rules.specs.Refusals.{refusal as scope_refusal}
 use Rattle.cv_scope_rules.specs.Scope.{first_scope_fault, names_of}
 use Rattle.cv_scope_rules.specs.Standing.{at_root}
 use Rattle.cv_scope_rules.proofs.First.{finds_first, scoped_where_none}
 use Rattle.cv_group.specs.declared.fault.GroupFault.{GroupFault}
-use Rattle.cv_group.specs.Refusals.{refused_by}
 use Rattle.cv_group_rules.specs.Symbols.{symbols_of}
-use Rattle.cv_group_rules.specs.Faults.{GroupRule, equivalences_in}
+use Rattle.cv_group_rules.specs.Faults.{equivalences_in}
 use Rattle.cv_group_rules.proofs.Deciding.{accepted_more as all_accepted, first_refused as first_group_refused}
 use Rattle.cv_meaning.specs.Queries.{queries_in}
 use Rattle.cv_query_form.proofs.First.{finds_first_law as first_refused_is_first}
+use Rattle.cv_library.specs.Givens.{Given, tokens_given}
+use Rattle.cv_library.specs.declared.error.GivenError.{GivenError}
+use Rattle.cv_library.specs.declared.error.GivenError.TheVariants as given
 use Rattle.cv_accept.specs.declared.error.FileError.{FileError}
 use Rattle.cv_accept.specs.declared.error.FileError.TheVariants as fault
-use Rattle.cv_accept.specs.Accepted.{Content, IsFull, Refuses, block_by, block_of, content_of, group_fault, of_block, of_groups, of_parsed, of_queries, of_scopes, of_script, of_tokens, of_types, query_fault, read_of, scope_fault, there, type_fault}
+use Rattle.cv_accept.specs.Accepted.{IsFull, Refuses, block_by, block_of, content_of, group_fault, of_parsed, of_script, of_tokens, query_fault, read_of, scope_fault, there, type_fault}
 use Rattle.cv_accept.specs.Places.{nodes_before}
 use Rattle.cv_accept.proofs.Places.{behind_none, behind_some}
+use Rattle.cv_accept.proofs.Stages.{by_groups, by_queries, by_scopes, by_script, by_tokens, by_types, given_only, lexis_of, not_given, past_groups, past_scopes, past_script, past_types, rank, types_rank}
 use Rattle.cv_report.specs.declared.report.Cause.TheVariants.{Moves, Stuck}
 use Rattle.cv_report.specs.declared.report.Command.{Command}
 use Rattle.cv_report.specs.declared.report.Command.TheVariants as command
@@ -73,67 +74,6 @@ use Rattle.cv_report.specs.declared.report.Which.{Which}
 use Rattle.cv.proofs.Commands.{stops_under}
 use Rattle.cv.proofs.Unread.{dead_anywhere, nested_at}
 
--- bytes that are refused
-
--- the order of the stages that refuse
-abbrev rank : FileError → ℕ
-rank (fault.Lex e) = 0
-rank (fault.Parse e) = 1
-rank (fault.Script k) = 2
-rank (fault.Types e) = 3
-rank (fault.Scope e) = 4
-rank (fault.Group k e) = 5
-rank (fault.Query k) = 6
-rank fault.OutOfMemory = 7
-rank (fault.Room need) = 8
-
-module _ (c : Content) (p : Parsed) where
-  queries_rank : (o : Option ℕ) (x : FileError) → of_queries c o ≡ Err x → 6 ≤ rank x
-  queries_rank None x e = absurd (cc)
-  queries_rank (Some k) x e = let s : fault.Query k ≡ x = cc in subst (λ y. 6 ≤ rank y) s (omega arith)
-
-  groups_rank : (o : Option (ℕ × GroupRule)) (x : FileError) → of_groups c p o ≡ Err x → 5 ≤ rank x
-  groups_rank None x e = let r = queries_rank (query_fault p) x e in omega arith
-  groups_rank (Some y) x e = let s : fault.Group y.0 (refused_by y.1) ≡ x = cc in subst (λ y. 5 ≤ rank y) s (omega arith)
-
-  scopes_rank : (o : Option (ℕ × ScopeRules)) (x : FileError) → of_scopes c p o ≡ Err x → 4 ≤ rank x
-  scopes_rank None x e = let r = groups_rank (group_fault p) x e in omega arith
-  scopes_rank (Some y) x e = let s : fault.Scope (scope_refusal y.0 y.1) ≡ x = cc in subst (λ y. 4 ≤ rank y) s (omega arith)
-
-  types_rank : (o : Option (ℕ × Fault)) (x : FileError) → of_types c p o ≡ Err x → 3 ≤ rank x
-  types_rank None x e = let r = scopes_rank (scope_fault p) x e in omega arith
-  types_rank (Some y) x e = let s : fault.Types (refusal y.0 y.1) ≡ x = cc in subst (λ y. 3 ≤ rank y) s (omega arith)
-
-  -- what a refusal by a later stage passed
-
-  past_types : (o : Option (ℕ × Fault)) (x : FileError) → 4 ≤ rank x → of_types c p o ≡ Err x → (o ≡ None) × (of_scopes c p (scope_fault p) ≡ Err x)
-  past_types None x r e = (refl, e)
-  past_types (Some y) x r e = absurd (let s : fault.Types (refusal y.0 y.1) ≡ x = cc in let i = subst (λ y. rank y ≤ 3) s (omega arith) in omega arith)
-
-  past_scopes : (o : Option (ℕ × ScopeRules)) (x : FileError) → 5 ≤ rank x → of_scopes c p o ≡ Err x → (o ≡ None) × (of_groups c p (group_fault p) ≡ Err x)
-  past_scopes None x r e = (refl, e)
-  past_scopes (Some y) x r e = absurd (let s : fault.Scope (scope_refusal y.0 y.1) ≡ x = cc in let i = subst (λ y. rank y ≤ 4) s (omega arith) in omega arith)
-
-  past_groups : (o : Option (ℕ × GroupRule)) (x : FileError) → 6 ≤ rank x → of_groups c p o ≡ Err x → (o ≡ None) × (of_queries c (query_fault p) ≡ Err x)
-  past_groups None x r e = (refl, e)
-  past_groups (Some y) x r e = absurd (let s : fault.Group y.0 (refused_by y.1) ≡ x = cc in let i = subst (λ y. rank y ≤ 5) s (omega arith) in omega arith)
-
-  by_types : (o : Option (ℕ × Fault)) (x : TypeFault) → of_types c p o ≡ Err (fault.Types x) → (q : ℕ) × (f : Fault) × (o ≡ Some (q, f)) × (refusal q f ≡ x)
-  by_types None x e = absurd (let r = scopes_rank (scope_fault p) (fault.Types x) e in omega arith)
-  by_types (Some (q, f)) x e = (q, f, refl, cc)
-
-  by_scopes : (o : Option (ℕ × ScopeRules)) (x : ScopeFault) → of_scopes c p o ≡ Err (fault.Scope x) → (q : ℕ) × (f : ScopeRules) × (o ≡ Some (q, f)) × (scope_refusal q f ≡ x)
-  by_scopes None x e = absurd (let r = groups_rank (group_fault p) (fault.Scope x) e in omega arith)
-  by_scopes (Some (q, f)) x e = (q, f, refl, cc)
-
-  by_groups : (o : Option (ℕ × GroupRule)) (k : ℕ) (x : GroupFault) → of_groups c p o ≡ Err (fault.Group k x) → (rule : GroupRule) × (o ≡ Some (k, rule)) × (refused_by rule ≡ x)
-  by_groups None k x e = absurd (let r = queries_rank (query_fault p) (fault.Group k x) e in omega arith)
-  by_groups (Some (j, rule)) k x e = let s : j ≡ k = cc in (rule, ap (λ n. let o : Option (ℕ × GroupRule) = Some (n, rule) in o) s, cc)
-
-  by_queries : (o : Option ℕ) (k : ℕ) → of_queries c o ≡ Err (fault.Query k) → o ≡ Some k
-  by_queries None k e = absurd (cc)
-  by_queries (Some j) k e = let s : j ≡ k = cc in ap (λ n. let o : Option ℕ = Some n in o) s
-
 -- proof blocks
 
 -- through a token at which a block is refused goes no script
@@ -149,35 +89,6 @@ dead_block ts k (Some range) e =
     let signs = block_signs ts range in
     let h = no_script k (tree_read (signs_of ts).names ts first range.1) e in
     (range, refl, refuses 0 0 first signs k (script.Script k) refl (read_in_room 0 0 first signs ∙ ap (in_room 0 0) h))
-
-block_rank : (e : ScriptError) → 2 ≤ rank (of_block e)
-block_rank (script.Script k) = omega arith
-block_rank (script.Build b) = omega arith
-
-script_rank : (ts : List Token) (p : Parsed) (r : Result (Option Tree) ScriptError) (x : FileError) → of_script ts p r ≡ Err x → 2 ≤ rank x
-script_rank ts p (Ok b) x e = let r = types_rank (content_of ts p b) p (type_fault p) x e in omega arith
-script_rank ts p (Err y) x e = let s : of_block y ≡ x = cc in subst (λ z. 2 ≤ rank z) s (block_rank y)
-
--- the fault of a block is neither of types, of scope nor of queries
-block_only : (y : ScriptError) (x : FileError) → 3 ≤ rank x → rank x ≤ 6 → of_block y ≡ x → ⊥
-block_only (script.Script k) x l m e = let i = subst (λ y. rank y ≤ 2) e (omega arith) in omega arith
-block_only (script.Build b) x l m e = let i = subst (λ y. 7 ≤ rank y) e (omega arith) in omega arith
-
-past_script : (ts : List Token) (p : Parsed) (r : Result (Option Tree) ScriptError) (x : FileError) → 3 ≤ rank x → rank x ≤ 6 → of_script ts p r ≡ Err x → (block : Option Tree) × (r ≡ Ok block) × (of_types (content_of ts p block) p (type_fault p) ≡ Err x)
-past_script ts p (Ok b) x l m e = (b, refl, e)
-past_script ts p (Err y) x l m e = absurd (block_only y x l m (cc))
-
-by_script : (y : ScriptError) (k : ℕ) → of_block y ≡ fault.Script k → y ≡ script.Script k
-by_script (script.Script j) k e = cc
-by_script (script.Build b) k e = absurd (cc)
-
-by_parsed : (ts : List Token) (r : Result Parsed ParseError) (x : ParseError) → of_parsed ts r ≡ Err (fault.Parse x) → r ≡ Err x
-by_parsed ts (Ok p) x e = absurd (let r = script_rank ts p (block_of ts p) (fault.Parse x) e in omega arith)
-by_parsed ts (Err y) x e = let s : y ≡ x = cc in ap (λ z. let r : Result Parsed ParseError = Err z in r) s
-
-no_lexis : (ts : List Token) (r : Result Parsed ParseError) (x : LexError) → of_parsed ts r ≡ Err (fault.Lex x) → ⊥
-no_lexis ts (Ok p) x e = let r = script_rank ts p (block_of ts p) (fault.Lex x) e in omega arith
-no_lexis ts (Err y) x e = cc
 
 -- what a refusal comes from
 
@@ -270,7 +181,7 @@ module _ (ts : List Token) (p : Parsed) (e : parsed most_pool (signs_of ts).sign
         dead = b.2;
       }
 
--- a refusal of what tokens say comes from the tokens of the bytes
+-- a refusal of what tokens say comes from the tokens of the source
 
 abbrev of_file : (x : FileError) (Holds : List Token → Type 0) → 2 ≤ rank x → Type 0
 of_file x Holds r = (ts : List Token) (p : Parsed) → parsed most_pool (signs_of ts).signs ≡ Ok p → of_script ts p (block_of ts p) ≡ Err x → Holds ts
@@ -279,64 +190,56 @@ by_said : (ts : List Token) (x : FileError) (Holds : List Token → Type 0) (l :
 by_said ts x Holds l h (Ok p) e i = h ts p e i
 by_said ts x Holds l h (Err y) e i = absurd (let s : fault.Parse y ≡ x = cc in let j = subst (λ y. rank y ≤ 1) s (omega arith) in omega arith)
 
-by_bytes : (bytes : List ℕ) (x : FileError) (Holds : List Token → Type 0) (l : 2 ≤ rank x) → of_file x Holds l → (r : Result (List Token) LexError) → tokens_of bytes ≡ r → of_tokens most_pool r ≡ Err x → OfTokens bytes Holds
-by_bytes bytes x Holds l h (Ok ts) e i = record { tokens = ts; lexed = e; holds = by_said ts x Holds l h (parsed most_pool (signs_of ts).signs) refl i }
-by_bytes bytes x Holds l h (Err y) e i = absurd (let s : fault.Lex y ≡ x = cc in let j = subst (λ y. rank y ≤ 0) s (omega arith) in omega arith)
+by_bytes : (source : Given) (x : FileError) (Holds : List Token → Type 0) (l : 2 ≤ rank x) → rank x ≤ 6 → of_file x Holds l → (r : Result (List Token) GivenError) → tokens_given source ≡ r → of_tokens most_pool r ≡ Err x → OfTokens source Holds
+by_bytes source x Holds l m h (Ok ts) e i = record { tokens = ts; given = e; holds = by_said ts x Holds l h (parsed most_pool (signs_of ts).signs) refl i }
+by_bytes source x Holds l m h (Err y) e i = absurd (let one : 1 ≤ rank x = omega (arith, l) in given_only y x one m (cc))
 
-refused_later : (bytes : List ℕ) (x : FileError) (Holds : List Token → Type 0) (l : 2 ≤ rank x) → of_file x Holds l → read_of most_pool bytes ≡ Err x → OfTokens bytes Holds
+refused_later : (source : Given) (x : FileError) (Holds : List Token → Type 0) (l : 2 ≤ rank x) → rank x ≤ 6 → of_file x Holds l → read_of most_pool source ≡ Err x → OfTokens source Holds
 unfolding read_of
-refused_later bytes x Holds l h e = by_bytes bytes x Holds l h (tokens_of bytes) refl e
+refused_later source x Holds l m h e = by_bytes source x Holds l m h (tokens_given source) refl e
 
-by_tokens : (limit : ℕ) (r : Result (List Token) LexError) (x : ParseError) → of_tokens limit r ≡ Err (fault.Parse x) → (ts : List Token) × (r ≡ Ok ts) × (parsed limit (signs_of ts).signs ≡ Err x)
-by_tokens limit (Ok ts) x e = (ts, refl, by_parsed ts (parsed limit (signs_of ts).signs) x e)
-by_tokens limit (Err y) x e = absurd (cc)
-
-by_lexis : (limit : ℕ) (r : Result (List Token) LexError) (x : LexError) → of_tokens limit r ≡ Err (fault.Lex x) → r ≡ Err x
-by_lexis limit (Ok ts) x e = absurd (no_lexis ts (parsed limit (signs_of ts).signs) x e)
-by_lexis limit (Err y) x e = let s : y ≡ x = cc in ap (λ z. let r : Result (List Token) LexError = Err z in r) s
-
-lexis_of : (bytes : List ℕ) (x : LexError) → read_of most_pool bytes ≡ Err (fault.Lex x) → tokens_of bytes ≡ Err x
+told : (source : Given) (x : ParseError) (Holds : List Sign → Type 0) → ((signs : List Sign) → parsed most_pool signs ≡ Err x → Holds signs) → read_of most_pool source ≡ Err (fault.Parse x) → OfTokens source (λ ts. Holds (signs_of ts).signs)
 unfolding read_of
-lexis_of bytes x e = by_lexis most_pool (tokens_of bytes) x e
+told source x Holds h e =
+    let t = by_tokens most_pool (tokens_given source) x e in
+    record { tokens = t.0; given = t.1; holds = h (signs_of t.0).signs t.2 }
 
-told : (bytes : List ℕ) (x : ParseError) (Holds : List Sign → Type 0) → ((signs : List Sign) → parsed most_pool signs ≡ Err x → Holds signs) → read_of most_pool bytes ≡ Err (fault.Parse x) → OfTokens bytes (λ ts. Holds (signs_of ts).signs)
-unfolding read_of
-told bytes x Holds h e =
-    let t = by_tokens most_pool (tokens_of bytes) x e in
-    record { tokens = t.0; lexed = t.1; holds = h (signs_of t.0).signs t.2 }
-
--- of told bytes this holds
-pub where_told : (told : Option (List ℕ)) (bytes : List ℕ) (P : List ℕ → Type 0) → AreTold told bytes → P bytes → IfSome told P
-where_told None bytes P a p = tt
-where_told (Some b) bytes P a p = subst P (sym a) p
+-- of a told source this holds
+pub where_told : (told : Option Given) (source : Given) (P : Given → Type 0) → AreTold told source → P source → IfSome told P
+where_told None source P a p = tt
+where_told (Some b) source P a p = subst P (sym a) p
 
 -- the cause of a refusal
-pub refusal_cause : (o : Outside) (r : Report) (bytes : List ℕ) → AreTold o.told bytes → r.file ≡ None → (x : FileError) → Refuses most_pool bytes x → ComesFrom o r (ended_by x)
-refusal_cause o r bytes a none x e = go x e
+pub refusal_cause : (o : Outside) (r : Report) (source : Given) → AreTold o.told source → r.file ≡ None → (x : FileError) → Refuses most_pool source x → ComesFrom o r (ended_by x)
+refusal_cause o r source a none x e = go x e
   where
-    in_told : (P : List ℕ → Type 0) → P bytes → IfSome o.told P
-    in_told P p = where_told o.told bytes P a p
+    in_told : (P : Given → Type 0) → P source → IfSome o.told P
+    in_told P p = where_told o.told source P a p
 
-    parsing : (x : ParseError) → read_of most_pool bytes ≡ Err (fault.Parse x) → ComesFrom o r (parse_ended x)
-    parsing (parse.Syntax k) e = cause.syntax (in_told _ (told bytes (parse.Syntax k) (λ signs. IsDeadAtEveryDepth signs k) (λ signs i. dead_anywhere most_pool signs k i) e))
-    parsing (parse.Nesting k) e = cause.nesting (in_told _ (told bytes (parse.Nesting k) (λ signs. IsNestedTooDeep signs k) (λ signs i. nested_at most_pool signs k i) e))
-    parsing (parse.NameTwice k) e = cause.name_twice (in_told _ (told bytes (parse.NameTwice k) (λ signs. IsMisnamedAt signs names.NameTwice k) (λ signs i. twice_named most_pool signs k i) e))
-    parsing (parse.NameUnknown k) e = cause.name_unknown (in_told _ (told bytes (parse.NameUnknown k) (λ signs. IsMisnamedAt signs names.NameUnknown k) (λ signs i. unknown_name most_pool signs k i) e))
+    parsing : (x : ParseError) → read_of most_pool source ≡ Err (fault.Parse x) → ComesFrom o r (parse_ended x)
+    parsing (parse.Syntax k) e = cause.syntax (in_told _ (told source (parse.Syntax k) (λ signs. IsDeadAtEveryDepth signs k) (λ signs i. dead_anywhere most_pool signs k i) e))
+    parsing (parse.Nesting k) e = cause.nesting (in_told _ (told source (parse.Nesting k) (λ signs. IsNestedTooDeep signs k) (λ signs i. nested_at most_pool signs k i) e))
+    parsing (parse.NameTwice k) e = cause.name_twice (in_told _ (told source (parse.NameTwice k) (λ signs. IsMisnamedAt signs names.NameTwice k) (λ signs i. twice_named most_pool signs k i) e))
+    parsing (parse.NameUnknown k) e = cause.name_unknown (in_told _ (told source (parse.NameUnknown k) (λ signs. IsMisnamedAt signs names.NameUnknown k) (λ signs i. unknown_name most_pool signs k i) e))
     parsing (parse.Build (build.Full n)) e =
-        let large = told bytes (parse.Build (build.Full n)) (λ signs. IsLarge signs (HasWeight most_pool n)) (λ signs i. heavy_trees most_pool signs n i) e in
+        let large = told source (parse.Build (build.Full n)) (λ signs. IsLarge signs (HasWeight most_pool n)) (λ signs i. heavy_trees most_pool signs n i) e in
         cause.pool (subst (λ (f : Option File). IsNone f) (sym none) refl) large.holds.large.0 (in_told _ large)
-    parsing (parse.Build (build.Nodes n)) e = cause.nodes (in_told _ (told bytes (parse.Build (build.Nodes n)) (λ signs. IsLarge signs (HasNodes n)) (λ signs i. large_game most_pool signs n i) e))
-    parsing (parse.Build (build.Depth n)) e = cause.deep (in_told _ (told bytes (parse.Build (build.Depth n)) (λ signs. IsLarge signs (HasDepth n)) (λ signs i. deep_game most_pool signs n i) e))
+    parsing (parse.Build (build.Nodes n)) e = cause.nodes (in_told _ (told source (parse.Build (build.Nodes n)) (λ signs. IsLarge signs (HasNodes n)) (λ signs i. large_game most_pool signs n i) e))
+    parsing (parse.Build (build.Depth n)) e = cause.deep (in_told _ (told source (parse.Build (build.Depth n)) (λ signs. IsLarge signs (HasDepth n)) (λ signs i. deep_game most_pool signs n i) e))
     parsing (parse.Build build.OutOfMemory) e = cause.memory
 
-    go : (x : FileError) → Refuses most_pool bytes x → ComesFrom o r (ended_by x)
-    go (fault.Lex x) e = cause.no_tokens (in_told (λ (bs : List ℕ). tokens_of bs ≡ Err x) (lexis_of bytes x e))
+    go : (x : FileError) → Refuses most_pool source x → ComesFrom o r (ended_by x)
+    go (fault.Lex x) e = cause.no_tokens (in_told (λ (s : Given). tokens_of s.bytes ≡ Err x) (lexis_of source x e))
+    go (fault.LibraryLex x) e = cause.library_without_tokens (in_told (λ (s : Given). tokens_given s ≡ Err (given.LibraryLex x)) (not_given source (given.LibraryLex x) (omega arith) e))
+    go (fault.Library x) e = cause.no_library (in_told (λ (s : Given). tokens_given s ≡ Err (given.Library x)) (not_given source (given.Library x) (omega arith) e))
+    go (fault.Expand x) e = cause.not_expanded (in_told (λ (s : Given). tokens_given s ≡ Err (given.Expand x)) (not_given source (given.Expand x) (omega arith) e))
+    go (fault.Tokens n) e = cause.tokens (in_told (λ (s : Given). tokens_given s ≡ Err (given.Tokens n)) (not_given source (given.Tokens n) (omega arith) e))
     go (fault.Parse x) e = parsing x e
-    go (fault.Script k) e = cause.script (in_told _ (refused_later bytes (fault.Script k) (λ ts. HasNoScript ts k) (omega arith) (λ ts p i j. script_cause ts p i k j) e))
-    go (fault.Types x) e = cause.types (in_told _ (refused_later bytes (fault.Types x) (λ ts. HasTypeFault ts x) (omega arith) (λ ts p i j. type_cause ts p i x j) e))
-    go (fault.Scope x) e = cause.scope (in_told _ (refused_later bytes (fault.Scope x) (λ ts. HasScopeFault ts x) (omega arith) (λ ts p i j. scope_cause ts p i x j) e))
-    go (fault.Group k x) e = cause.group (in_told _ (refused_later bytes (fault.Group k x) (λ ts. HasGroupFault ts k x) (omega arith) (λ ts p i j. group_cause ts p i k x j) e))
-    go (fault.Query k) e = cause.query (in_told _ (refused_later bytes (fault.Query k) (λ ts. HasQueryFault ts k) (omega arith) (λ ts p i j. query_cause ts p i k j) e))
+    go (fault.Script k) e = cause.script (in_told _ (refused_later source (fault.Script k) (λ ts. HasNoScript ts k) (omega arith) (omega arith) (λ ts p i j. script_cause ts p i k j) e))
+    go (fault.Types x) e = cause.types (in_told _ (refused_later source (fault.Types x) (λ ts. HasTypeFault ts x) (omega arith) (omega arith) (λ ts p i j. type_cause ts p i x j) e))
+    go (fault.Scope x) e = cause.scope (in_told _ (refused_later source (fault.Scope x) (λ ts. HasScopeFault ts x) (omega arith) (omega arith) (λ ts p i j. scope_cause ts p i x j) e))
+    go (fault.Group k x) e = cause.group (in_told _ (refused_later source (fault.Group k x) (λ ts. HasGroupFault ts k x) (omega arith) (omega arith) (λ ts p i j. group_cause ts p i k x j) e))
+    go (fault.Query k) e = cause.query (in_told _ (refused_later source (fault.Query k) (λ ts. HasQueryFault ts k) (omega arith) (omega arith) (λ ts p i j. query_cause ts p i k j) e))
     go (fault.Room need) e = cause.script_room (subst (λ (f : Option File). IsNone f) (sym none) refl) (in_told (λ bs. IsFull most_pool bs need) e)
     go fault.OutOfMemory e = cause.memory
 

@@ -6,7 +6,6 @@ use Rattle.std.proofs.lemmas.Bool.Decides.{nat_tests}
 use Rattle.cv_syntax_trees.specs.Tree.{Tree}
 use Rattle.cv_bound.specs.declared.terms.Term.{Term}
 use Rattle.cv_report.specs.declared.report.Verdict.TheVariants.{Proved}
-use Rattle.cv_script.specs.Views as items
 use Rattle.cv_sequences.specs.Chains.{Link}
 use Rattle.cv_bound.specs.costs.Sums.{sum_for, with_cost}
 use Rattle.cv_bound.specs.declared.costs.sums.Sums.{Sums}

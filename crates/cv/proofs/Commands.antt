@@ -9,8 +9,7 @@ use Rattle.cv_report.specs.declared.report.Command.TheVariants as command
 use Rattle.cv_report.specs.declared.report.Report.{Report}
 use Rattle.cv_report.specs.declared.report.Status.{Status}
 use Rattle.cv_report.specs.declared.report.Status.TheVariants as status
-use Rattle.cv_report.specs.declared.report.Which.TheVariants.{Depth, File as FileLimit, Nodes, Pool, Steps}
-use Rattle.cv_report.specs.verdicts.Verdicts.{ended_with}
+use Rattle.cv_report.specs.declared.report.Which.TheVariants.{Depth, File as FileLimit, Nodes, Pool, Steps, Tokens}
 use Rattle.cv_scene.specs.Scenes.{Scene}
 use Rattle.cv.specs.Strategy.{FollowsStrategy, MayHaveFile, Proceeds, ProceedsWithout, ShowsFile, SpeaksOfFile, TakesSteps, ends_under, is_games, shown}
 
@@ -50,6 +49,7 @@ shown_may status.Read h = h
 shown_may status.Write h = h
 shown_may status.Memory h = h
 shown_may (status.Limit FileLimit) h = h
+shown_may (status.Limit (Tokens n)) h = h
 shown_may (status.Limit (Nodes n)) h = tt
 shown_may (status.Limit (Depth n)) h = tt
 shown_may (status.Limit Steps) h = tt
@@ -78,6 +78,7 @@ shown_speaks status.Read h = absurd h
 shown_speaks status.Write h = absurd h
 shown_speaks status.Memory h = absurd h
 shown_speaks (status.Limit FileLimit) h = absurd h
+shown_speaks (status.Limit (Tokens n)) h = inr tt
 shown_speaks (status.Limit (Nodes n)) h = inr tt
 shown_speaks (status.Limit (Depth n)) h = inr tt
 shown_speaks (status.Limit Steps) h = inr tt

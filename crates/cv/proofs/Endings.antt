@@ -1,6 +1,6 @@
 -- How runs end.
 use Rattle.std.proofs.Common.{◌≡◌, ℕ, suc, ◌+◌, ◌<◌, ◌≤◌, arith, refl, ap, nat_lt, Bool, true, false, if◌then◌else◌, List, [], ◌∷◌, ◌++◌, length, length-append, map, take, Option, Some, None, Result, Ok, Err, sym, ◌∙◌, subst, ◌⊎◌, inl, inr, append-nil}
-use Rattle.std.specs.Prelude.{IfSome, IsNone, IsSome, MatchOption, option_and_then, slice_get, ◌≢◌}
+use Rattle.std.specs.Prelude.{IfSome, IsNone, IsSome, IsSomeAnd, MatchOption, option_and_then, slice_get, ◌≢◌}
 use Rattle.cv_outside.specs.Causes.{NoFault, Rose}
 use Rattle.cv_outside.specs.Told.{Files}
 use Rattle.cv_outside.specs.declared.shelf.FetchError.{FetchError}
@@ -11,6 +11,7 @@ use Rattle.cv_syntax_trees.specs.Tree.{Tree}
 use Rattle.cv_syntax.specs.PoolTrees.{tree_at}
 use Rattle.cv_bound.specs.declared.terms.Term.{Term}
 use Rattle.cv_parse.specs.declared.error.ParseError.TheVariants as parse
+use Rattle.cv_library.specs.Givens.{Given}
 use Rattle.cv_accept.specs.declared.error.FileError.{FileError}
 use Rattle.cv_accept.specs.declared.error.FileError.TheVariants as fault
 use Rattle.cv_accept.specs.Accepted.{Content, IsFile, IsFull, Refuses, read_of, most_bytes, most_pool}
@@ -22,7 +23,7 @@ use Rattle.std.proofs.lemmas.List.{length-map}
 use Rattle.cv_kernel.specs.Proofs.{closed_by, nodes_along}
 use Rattle.cv_scene.specs.Scenes.{Scene}
 use Rattle.cv_steps.specs.Sequences.{scene}
-use Rattle.cv_report.specs.declared.report.Which.TheVariants.{Depth, File, Nodes, Pool, Steps}
+use Rattle.cv_report.specs.declared.report.Which.TheVariants.{Depth, File, Nodes, Pool, Steps, Tokens}
 use Rattle.cv_report.specs.verdicts.Verdicts.{ended_with}
 use Rattle.cv_follow.specs.Scripts.{EndsScript, Follows, Stops, first_open, known_to, most_steps, no_room, refused, too_deep, too_large, too_many}
 use Rattle.cv.proofs.Walking.{never_stops}
@@ -50,7 +51,7 @@ use Rattle.cv.specs.Drawings.{HasDrawn}
 use Rattle.cv.specs.Steps.{HasCloseSteps, IsCloseStep, game_along}
 use Rattle.cv.specs.Values.{context_of}
 use Rattle.cv.specs.Strategy.{AcceptsAll, EndsBy, EndsWell, EndsWithout, HasFile, HoldsUpTo, IsExpected, IsGood, IsSound, Judged, Proceeds, SpeaksOfFile, declared_in, ends_under, file_in, game_in, is_games, moves_in, steps_in}
-use Rattle.cv.specs.Words.{AreTold, bytes_asked, command_of, text_asked}
+use Rattle.cv.specs.Words.{AreTold, IsLong, IsShort, alone, command_of, source_asked, text_asked}
 use Rattle.cv_outside.specs.words.Forms.{Asked, Games, Prove, Sample}
 use Rattle.cv.proofs.Causing.{where_told}
 use Rattle.cv.proofs.Commands.{Speaks, speaks_under}
@@ -90,14 +91,14 @@ file_proved c s f (Some given) steps e n g h =
     let same : steps ≡ given = sym (some_injective e) in
     h.ends ∙ ap (ends_under c) (script_proved h.walked f given (subst (AcceptsAll f) same g) (plain_follows f given h.steps h.room h.walked (ap has_word (sym same) ∙ n) h.stands h.follows))
 
-good_proved : (c : Command) (s : Status) (bytes : List ℕ) → IsGood bytes → IsExpected c (read_of most_pool bytes) s → s ≡ ends_under c status.Proved
-good_proved c s bytes g h = file_proved c s g.content g.content.script g.steps g.script g.plain g.succeeds (subst (λ r. IsExpected c r s) (file_is_read most_pool bytes g.content g.file) h)
+good_proved : (c : Command) (s : Status) (source : Given) → IsGood source → IsExpected c (read_of most_pool source) s → s ≡ ends_under c status.Proved
+good_proved c s source g h = file_proved c s g.content g.content.script g.steps g.script g.plain g.succeeds (subst (λ r. IsExpected c r s) (file_is_read most_pool source g.content g.file) h)
 
 -- a pool has room for the proof block of a good file
 
-good_room : (bytes : List ℕ) (need : ℕ) → IsGood bytes → IsFull most_pool bytes need → ⊥
-good_room bytes need g w =
-    let same = full_content most_pool bytes need g.content w (file_is_read most_pool bytes g.content g.file) in
+good_room : (source : Given) (need : ℕ) → IsGood source → IsFull most_pool source need → ⊥
+good_room source need g w =
+    let same = full_content most_pool source need g.content w (file_is_read most_pool source g.content g.file) in
     let nodes = ap content_nodes same in
     let l = g.succeeds.fits in
     let o = w.over in
@@ -105,29 +106,39 @@ good_room bytes need g w =
     let n = items_nodes w.script in
     omega arith
 
-judged_well : (c : Command) (s : Status) (bytes : List ℕ) → IsGood bytes → Judged c s bytes → (IsExpected c (read_of most_pool bytes) s → s ≡ ends_under c status.Proved) → EndsWell c s
-judged_well c status.Memory bytes g j e = inr refl
-judged_well c status.Proved bytes g j e = inl (e j)
-judged_well c status.Done bytes g j e = inl (e j)
-judged_well c (status.FileRefused fault) bytes g j e = inl (e j)
-judged_well c (status.Limit (Pool need)) bytes g (inl j) e = inl (e j)
-judged_well c (status.Limit (Pool need)) bytes g (inr j) e = absurd (good_room bytes need g j)
-judged_well c (status.Limit (Nodes n)) bytes g j e = inl (e j)
-judged_well c (status.Limit (Depth n)) bytes g j e = inl (e j)
-judged_well c (status.Limit Steps) bytes g j e = inl (e j)
-judged_well c (status.Limit File) bytes g j e = inl (e j)
-judged_well c (status.Open cause) bytes g j e = inl (e j)
-judged_well c status.Words bytes g j e = inl (e j)
-judged_well c status.Read bytes g j e = inl (e j)
-judged_well c status.Write bytes g j e = inl (e j)
+judged_well : (c : Command) (s : Status) (source : Given) → IsGood source → Judged c s source → (IsExpected c (read_of most_pool source) s → s ≡ ends_under c status.Proved) → EndsWell c s
+judged_well c status.Memory source g j e = inr refl
+judged_well c status.Proved source g j e = inl (e j)
+judged_well c status.Done source g j e = inl (e j)
+judged_well c (status.FileRefused fault) source g j e = inl (e j)
+judged_well c (status.Limit (Pool need)) source g (inl j) e = inl (e j)
+judged_well c (status.Limit (Pool need)) source g (inr j) e = absurd (good_room source need g j)
+judged_well c (status.Limit (Tokens n)) source g j e = inl (e j)
+judged_well c (status.Limit (Nodes n)) source g j e = inl (e j)
+judged_well c (status.Limit (Depth n)) source g j e = inl (e j)
+judged_well c (status.Limit Steps) source g j e = inl (e j)
+judged_well c (status.Limit File) source g j e = inl (e j)
+judged_well c (status.Open cause) source g j e = inl (e j)
+judged_well c status.Words source g j e = inl (e j)
+judged_well c status.Read source g j e = inl (e j)
+judged_well c status.Write source g j e = inl (e j)
 
-pub ends_well : (c : Command) (s r : Status) (bytes : List ℕ) → IsComplete c bytes r → IsGood bytes → (s ≡ r) ⊎ (s ≡ status.Write) → s ≢ status.Write → EndsWell c s
-ends_well c s r bytes k g (inl e) n = subst (EndsWell c) (sym e) (judged_well c r bytes g (k.short g.short) (good_proved c r bytes g))
-ends_well c s r bytes k g (inr e) n = absurd (n e)
+pub ends_well : (c : Command) (s r : Status) (source : Given) → IsComplete c source r → IsGood source → (s ≡ r) ⊎ (s ≡ status.Write) → s ≢ status.Write → EndsWell c s
+ends_well c s r source k g (inl e) n = subst (EndsWell c) (sym e) (judged_well c r source g (k.short g.short) (good_proved c r source g))
+ends_well c s r source k g (inr e) n = absurd (n e)
 
--- what is said of told bytes
-pub judged_complete : (c : Command) (told : Option (List ℕ)) (bytes : List ℕ) (s : Status) → AreTold told bytes → length bytes ≤ most_bytes → Judged c s bytes → IfSome told (λ (b : List ℕ). IsComplete c b s)
-judged_complete c told bytes s a l j = where_told told bytes (λ (b : List ℕ). IsComplete c b s) a (record { short = λ k. j; long = λ k. absurd (let m : most_bytes < length bytes = k in omega arith) })
+-- a source that is short isn't long
+short_or_long : (source : Given) → IsShort source → IsLong source → ⊥
+short_or_long source s (inl l) = let f = s.file in omega arith
+short_or_long source s (inr l) = go source.library s.library l
+  where
+    go : (library : Option (List ℕ)) → IfSome library (λ bytes. length bytes ≤ most_bytes) → IsSomeAnd library (λ bytes. most_bytes < length bytes) → ⊥
+    go None f l = l
+    go (Some bytes) f l = omega arith
+
+-- what is said of a told source
+pub judged_complete : (c : Command) (told : Option Given) (source : Given) (s : Status) → AreTold told source → IsShort source → Judged c s source → IfSome told (λ (b : Given). IsComplete c b s)
+judged_complete c told source s a l j = where_told told source (λ (b : Given). IsComplete c b s) a (record { short = λ k. j; long = λ k. absurd (short_or_long source l k) })
 
 -- what is read speaks of a file, unless memory ran out
 
@@ -179,6 +190,10 @@ ends_speak c f (Some steps) s h = subst Speaks (sym h.ends) (speaks_under c h.wa
 
 refusal_speaks : (x : FileError) → (ended_by x ≡ status.Memory) ⊎ SpeaksOfFile (ended_by x)
 refusal_speaks (fault.Lex x) = inr tt
+refusal_speaks (fault.LibraryLex x) = inr tt
+refusal_speaks (fault.Library x) = inr tt
+refusal_speaks (fault.Expand x) = inr tt
+refusal_speaks (fault.Tokens n) = inr tt
 refusal_speaks (fault.Parse (parse.Syntax k)) = inr tt
 refusal_speaks (fault.Parse (parse.Nesting k)) = inr tt
 refusal_speaks (fault.Parse (parse.NameTwice k)) = inr tt
@@ -204,21 +219,22 @@ expected_speaks : (c : Command) (s : Status) (r : Result Content FileError) → 
 expected_speaks c s (Ok f) h = inr (ends_speak c f f.script s h)
 expected_speaks c s (Err x) h = subst (λ y. (y ≡ status.Memory) ⊎ Speaks y) (sym h) (refused_speaks (ended_by x) (refusal_speaks x))
 
-pub judged_speaks : (c : Command) (s : Status) (bytes : List ℕ) → Judged c s bytes → (s ≡ status.Memory) ⊎ Speaks s
-judged_speaks c status.Memory bytes j = inl refl
-judged_speaks c status.Proved bytes j = expected_speaks c status.Proved (read_of most_pool bytes) j
-judged_speaks c status.Done bytes j = inr (inl refl)
-judged_speaks c (status.Open x) bytes j = expected_speaks c (status.Open x) (read_of most_pool bytes) j
-judged_speaks c (status.FileRefused f) bytes j = expected_speaks c (status.FileRefused f) (read_of most_pool bytes) j
-judged_speaks c status.Words bytes j = expected_speaks c status.Words (read_of most_pool bytes) j
-judged_speaks c status.Read bytes j = expected_speaks c status.Read (read_of most_pool bytes) j
-judged_speaks c status.Write bytes j = expected_speaks c status.Write (read_of most_pool bytes) j
-judged_speaks c (status.Limit (Pool need)) bytes (inl j) = expected_speaks c (status.Limit (Pool need)) (read_of most_pool bytes) j
-judged_speaks c (status.Limit (Pool need)) bytes (inr j) = inr (inr tt)
-judged_speaks c (status.Limit (Nodes n)) bytes j = expected_speaks c (status.Limit (Nodes n)) (read_of most_pool bytes) j
-judged_speaks c (status.Limit (Depth n)) bytes j = expected_speaks c (status.Limit (Depth n)) (read_of most_pool bytes) j
-judged_speaks c (status.Limit Steps) bytes j = expected_speaks c (status.Limit Steps) (read_of most_pool bytes) j
-judged_speaks c (status.Limit File) bytes j = expected_speaks c (status.Limit File) (read_of most_pool bytes) j
+pub judged_speaks : (c : Command) (s : Status) (source : Given) → Judged c s source → (s ≡ status.Memory) ⊎ Speaks s
+judged_speaks c status.Memory source j = inl refl
+judged_speaks c status.Proved source j = expected_speaks c status.Proved (read_of most_pool source) j
+judged_speaks c status.Done source j = inr (inl refl)
+judged_speaks c (status.Open x) source j = expected_speaks c (status.Open x) (read_of most_pool source) j
+judged_speaks c (status.FileRefused f) source j = expected_speaks c (status.FileRefused f) (read_of most_pool source) j
+judged_speaks c status.Words source j = expected_speaks c status.Words (read_of most_pool source) j
+judged_speaks c status.Read source j = expected_speaks c status.Read (read_of most_pool source) j
+judged_speaks c status.Write source j = expected_speaks c status.Write (read_of most_pool source) j
+judged_speaks c (status.Limit (Pool need)) source (inl j) = expected_speaks c (status.Limit (Pool need)) (read_of most_pool source) j
+judged_speaks c (status.Limit (Pool need)) source (inr j) = inr (inr tt)
+judged_speaks c (status.Limit (Tokens n)) source j = expected_speaks c (status.Limit (Tokens n)) (read_of most_pool source) j
+judged_speaks c (status.Limit (Nodes n)) source j = expected_speaks c (status.Limit (Nodes n)) (read_of most_pool source) j
+judged_speaks c (status.Limit (Depth n)) source j = expected_speaks c (status.Limit (Depth n)) (read_of most_pool source) j
+judged_speaks c (status.Limit Steps) source j = expected_speaks c (status.Limit Steps) (read_of most_pool source) j
+judged_speaks c (status.Limit File) source j = expected_speaks c (status.Limit File) (read_of most_pool source) j
 
 -- neither Words nor Write
 pub speaks_never : (s : Status) → (s ≡ status.Memory) ⊎ Speaks s → (s ≢ status.Words) × (s ≢ status.Write)
@@ -240,22 +256,22 @@ steps_without r e = subst (λ (o : Option SourceFile). IfSome o (λ f. (k : ℕ)
 pub calls_without : (r : Report) → r.file ≡ None → HasBoundedCalls r
 calls_without r e = subst (λ (o : Option SourceFile). IfSome o (λ f. (k : ℕ) (x : Entry) (h : Shape) → slice_get r.trail.items k ≡ Some x → x.context ≡ Some h → MatchOption (context_of (contexts_in r) (suc k)) ⊥ (AreBounded (declared_in r) (shape_in h)))) (sym e) tt
 
--- no file is read from bytes, the told ones where there are any
-abbrev told_bytes : Option (List ℕ) → List ℕ
-told_bytes None = []
-told_bytes (Some bytes) = bytes
+-- no file is read from a source, the told one where there is any
+abbrev told_source : Option Given → Given
+told_source None = alone []
+told_source (Some source) = source
 
-are_told : (told : Option (List ℕ)) → AreTold told (told_bytes told)
+are_told : (told : Option Given) → AreTold told (told_source told)
 are_told None = tt
-are_told (Some bytes) = refl
+are_told (Some source) = refl
 
-answers_of : (told : Option (List ℕ)) (bytes : List ℕ) (r : Report) → AreTold told bytes → r.file ≡ None → SaysNothing r → (HasFile r.status → ⊥) → (r.command ≡ command.Games → r.status ≡ status.Done → ⊥) → (SpeaksOfFile r.status → Judged r.command r.status bytes) → Answers told r
-answers_of told bytes r a e n h d j = record {
-  bytes = bytes;
+answers_of : (told : Option Given) (source : Given) (r : Report) → AreTold told source → r.file ≡ None → SaysNothing r → (HasFile r.status → ⊥) → (r.command ≡ command.Games → r.status ≡ status.Done → ⊥) → (SpeaksOfFile r.status → Judged r.command r.status source) → Answers told r
+answers_of told source r a e n h d j = record {
+  source = source;
   agree = a;
   short = λ s. absurd (let t = subst (λ (o : Option SourceFile). IsSome o) e s in cc);
   names = 0;
-  file = subst (λ (o : Option SourceFile). IfSome o (λ f. IsFile most_pool bytes (file_in r f 0))) (sym e) tt;
+  file = subst (λ (o : Option SourceFile). IfSome o (λ f. IsFile most_pool source (file_in r f 0))) (sym e) tt;
   drawn = subst (λ (o : Option SourceFile). IfSome o (λ f. HasDrawn r (file_in r f 0))) (sym e) tt;
   follows = subst (λ (o : Option SourceFile). MatchOption o (SaysNothing r) (λ f. Proceeds r f (steps_in r))) (sym e) n;
   given = λ s. absurd (h s);
@@ -264,10 +280,10 @@ answers_of told bytes r a e n h d j = record {
   judged = j;
 }
 
-answers_without : (told : Option (List ℕ)) (r : Report) → r.file ≡ None → SaysNothing r → (HasFile r.status → ⊥) → (r.command ≡ command.Games → r.status ≡ status.Done → ⊥) → (SpeaksOfFile r.status → ⊥) → Answers told r
-answers_without told r e n h d j = answers_of told (told_bytes told) r (are_told told) e n h d (λ s. absurd (j s))
+answers_without : (told : Option Given) (r : Report) → r.file ≡ None → SaysNothing r → (HasFile r.status → ⊥) → (r.command ≡ command.Games → r.status ≡ status.Done → ⊥) → (SpeaksOfFile r.status → ⊥) → Answers told r
+answers_without told r e n h d j = answers_of told (told_source told) r (are_told told) e n h d (λ s. absurd (j s))
 
-pub memory_answers : (told : Option (List ℕ)) (r : Report) → r.file ≡ None → SaysNothing r → r.status ≡ status.Memory → Answers told r
+pub memory_answers : (told : Option Given) (r : Report) → r.file ≡ None → SaysNothing r → r.status ≡ status.Memory → Answers told r
 memory_answers told r e n s = answers_without told r e n (λ h. subst HasFile s h) (λ g d. (let h = sym s ∙ d in cc)) (λ h. subst SpeaksOfFile s h)
 
 pub memory_cause : (o : Outside) (r : Report) → r.status ≡ status.Memory → ComesFrom o r r.status
@@ -277,6 +293,10 @@ memory_cause o r s = subst (ComesFrom o r) (sym s) cause.memory
 
 refusal_has_none : (x : FileError) → HasFile (ended_by x) → ⊥
 refusal_has_none (fault.Lex x) h = h
+refusal_has_none (fault.LibraryLex x) h = h
+refusal_has_none (fault.Library x) h = h
+refusal_has_none (fault.Expand x) h = h
+refusal_has_none (fault.Tokens n) h = h
 refusal_has_none (fault.Parse (parse.Syntax k)) h = h
 refusal_has_none (fault.Parse (parse.Nesting k)) h = h
 refusal_has_none (fault.Parse (parse.NameTwice k)) h = h
@@ -295,6 +315,10 @@ refusal_has_none fault.OutOfMemory h = h
 
 refusal_not_done : (x : FileError) → ended_by x ≡ status.Done → ⊥
 refusal_not_done (fault.Lex x) e = (cc)
+refusal_not_done (fault.LibraryLex x) e = (cc)
+refusal_not_done (fault.Library x) e = (cc)
+refusal_not_done (fault.Expand x) e = (cc)
+refusal_not_done (fault.Tokens n) e = (cc)
 refusal_not_done (fault.Parse (parse.Syntax k)) e = (cc)
 refusal_not_done (fault.Parse (parse.Nesting k)) e = (cc)
 refusal_not_done (fault.Parse (parse.NameTwice k)) e = (cc)
@@ -311,13 +335,13 @@ refusal_not_done (fault.Query k) e = (cc)
 refusal_not_done (fault.Room need) e = (cc)
 refusal_not_done fault.OutOfMemory e = (cc)
 
-pub refusal_answers : (told : Option (List ℕ)) (r : Report) (bytes : List ℕ) (x : FileError) → AreTold told bytes → Refuses most_pool bytes x → r.status ≡ ended_by x → r.file ≡ None → SaysNothing r → Answers told r
-refusal_answers told r bytes x a f s e n =
-    answers_of told bytes r a e n (λ h. refusal_has_none x (subst HasFile s h)) (λ g d. refusal_not_done x (sym s ∙ d)) (λ h. subst (λ y. Judged r.command y bytes) (sym s) (judged_fault r.command x bytes f))
+pub refusal_answers : (told : Option Given) (r : Report) (source : Given) (x : FileError) → AreTold told source → Refuses most_pool source x → r.status ≡ ended_by x → r.file ≡ None → SaysNothing r → Answers told r
+refusal_answers told r source x a f s e n =
+    answers_of told source r a e n (λ h. refusal_has_none x (subst HasFile s h)) (λ g d. refusal_not_done x (sym s ∙ d)) (λ h. subst (λ y. Judged r.command y source) (sym s) (judged_fault r.command x source f))
 
 -- a file that isn't fetched
 
-pub fetch_answers : (told : Option (List ℕ)) (r : Report) (x : FetchError) → r.status ≡ fetch_ended x → r.file ≡ None → SaysNothing r → Answers told r
+pub fetch_answers : (told : Option Given) (r : Report) (x : FetchError) → r.status ≡ fetch_ended x → r.file ≡ None → SaysNothing r → Answers told r
 fetch_answers told r x s e n = answers_without told r e n (λ h. no_file x (subst HasFile s h)) (λ g d. not_done x (sym s ∙ d)) (λ h. speaks_not x (subst SpeaksOfFile s h))
   where
     not_done : (x : FetchError) → fetch_ended x ≡ status.Done → ⊥
@@ -335,7 +359,7 @@ fetch_answers told r x s e n = answers_without told r e n (λ h. no_file x (subs
     speaks_not fetch.Long h = h
     speaks_not fetch.OutOfMemory h = h
 
-pub fetch_cause : (o : Outside) (r : Report) (x : FetchError) → (x ≡ fetch.Failed → Rose o.before o.after) → (x ≡ fetch.Long → IfSome o.told (λ bytes. most_bytes < length bytes)) → ComesFrom o r (fetch_ended x)
+pub fetch_cause : (o : Outside) (r : Report) (x : FetchError) → (x ≡ fetch.Failed → Rose o.before o.after) → (x ≡ fetch.Long → IfSome o.told IsLong) → ComesFrom o r (fetch_ended x)
 fetch_cause o r fetch.Failed f l = cause.read (f refl)
 fetch_cause o r fetch.Long f l = cause.long (l refl)
 fetch_cause o r fetch.OutOfMemory f l = cause.memory
@@ -345,21 +369,21 @@ fetch_never fetch.Failed = (λ e. (cc), λ e. (cc))
 fetch_never fetch.Long = (λ e. (cc), λ e. (cc))
 fetch_never fetch.OutOfMemory = (λ e. (cc), λ e. (cc))
 
-pub fetch_complete : (c : Command) (told : Option (List ℕ)) (x : FetchError) (before after : ℕ) → (x ≡ fetch.Failed → Rose before after) → (x ≡ fetch.Long → IfSome told (λ bytes. most_bytes < length bytes)) → NoFault before after → IfSome told (λ (b : List ℕ). IsComplete c b (fetch_ended x))
+pub fetch_complete : (c : Command) (told : Option Given) (x : FetchError) (before after : ℕ) → (x ≡ fetch.Failed → Rose before after) → (x ≡ fetch.Long → IfSome told IsLong) → NoFault before after → IfSome told (λ (b : Given). IsComplete c b (fetch_ended x))
 fetch_complete c None x before after f l n = tt
 fetch_complete c (Some b) fetch.Failed before after f l n = absurd (n (f refl))
-fetch_complete c (Some b) fetch.Long before after f l n = record { short = λ k. absurd (let m : most_bytes < length b = l refl in let j : length b ≤ most_bytes = k in omega arith); long = λ k. inl refl }
+fetch_complete c (Some b) fetch.Long before after f l n = record { short = λ k. absurd (short_or_long b k (l refl)); long = λ k. inl refl }
 fetch_complete c (Some b) fetch.OutOfMemory before after f l n = record { short = λ k. tt; long = λ k. inr refl }
 
 -- words that give no command, and a sample whose text is asked for
 
-pub words_answers : (told : Option (List ℕ)) (r : Report) → r.file ≡ None → SaysNothing r → r.status ≡ status.Words → Answers told r
+pub words_answers : (told : Option Given) (r : Report) → r.file ≡ None → SaysNothing r → r.status ≡ status.Words → Answers told r
 words_answers told r e n s = answers_without told r e n (λ h. subst HasFile s h) (λ g d. (let h = sym s ∙ d in cc)) (λ h. subst SpeaksOfFile s h)
 
 pub words_cause : (o : Outside) (r : Report) → r.status ≡ status.Words → o.asked ≡ None → ComesFrom o r r.status
 words_cause o r s e = subst (ComesFrom o r) (sym s) (cause.words (subst (λ (n : Option Asked). IsNone n) (sym e) refl))
 
-pub text_answers : (told : Option (List ℕ)) (r : Report) → r.file ≡ None → SaysNothing r → (r.command ≡ command.Games → ⊥) → r.status ≡ status.Done → Answers told r
+pub text_answers : (told : Option Given) (r : Report) → r.file ≡ None → SaysNothing r → (r.command ≡ command.Games → ⊥) → r.status ≡ status.Done → Answers told r
 text_answers told r e n g s = answers_without told r e n (λ h. subst HasFile s h) (λ c d. g c) (λ h. subst SpeaksOfFile s h)
 
 pub text_cause : (o : Outside) (r : Report) (asked : Asked) (n : ℕ) → r.status ≡ status.Done → o.asked ≡ Some asked → text_asked asked ≡ Some n → ComesFrom o r r.status
@@ -368,23 +392,23 @@ text_cause o r asked n s e t =
     (cause.sampled (subst (λ (a : Option Asked). IsSome (option_and_then text_asked a)) (sym e) (subst (λ (x : Option ℕ). IsSome x) (sym t) refl)))
 
 -- where no bytes are told nothing is called for
-pub untold_complete : (told : Option (List ℕ)) (P : List ℕ → Type 0) → told ≡ None → IfSome told P
-untold_complete told P e = subst (λ (t : Option (List ℕ)). IfSome t P) (sym e) tt
+pub untold_complete : (told : Option Given) (P : Given → Type 0) → told ≡ None → IfSome told P
+untold_complete told P e = subst (λ (t : Option Given). IfSome t P) (sym e) tt
 
-pub text_untold : (told : Option Files) (asked : Asked) (n : ℕ) → text_asked asked ≡ Some n → bytes_asked told (Some asked) ≡ None
-text_untold told (Prove file moves more) n e = absurd (cc)
-text_untold told (Games file) n e = absurd (cc)
+pub text_untold : (told : Option Files) (asked : Asked) (n : ℕ) → text_asked asked ≡ Some n → source_asked told (Some asked) ≡ None
+text_untold told (Prove file moves more library) n e = absurd (cc)
+text_untold told (Games file library) n e = absurd (cc)
 text_untold told (Sample m true) n e = absurd (cc)
 text_untold told (Sample m false) n e = refl
 
 pub text_no_games : (asked : Asked) (n : ℕ) → text_asked asked ≡ Some n → command_of (Some asked) ≡ command.Games → ⊥
-text_no_games (Prove file moves more) n e g = absurd (cc)
-text_no_games (Games file) n e g = absurd (cc)
+text_no_games (Prove file moves more library) n e g = absurd (cc)
+text_no_games (Games file library) n e g = absurd (cc)
 text_no_games (Sample m true) n e g = absurd (cc)
 text_no_games (Sample m false) n e g = (cc)
 
 -- want of memory is complete
-pub memory_complete : (c : Command) (told : Option (List ℕ)) (s : Status) → s ≡ status.Memory → IfSome told (λ (b : List ℕ). IsComplete c b s)
+pub memory_complete : (c : Command) (told : Option Given) (s : Status) → s ≡ status.Memory → IfSome told (λ (b : Given). IsComplete c b s)
 memory_complete c None s e = tt
 memory_complete c (Some b) s e = subst (λ (x : Status). IsComplete c b x) (sym e) (record { short = λ k. tt; long = λ k. inr refl })
 

@@ -9,6 +9,7 @@ use Rattle.cv_syntax.specs.declared.work.Game.{Game}
 use Rattle.cv_syntax_trees.specs.Declarations.{Declaration}
 use Rattle.cv_syntax_trees.specs.Tree.{Tree}
 use Rattle.cv_syntax.specs.PoolTrees.{tree_at}
+use Rattle.cv_library.specs.Givens.{Given}
 use Rattle.cv_accept.specs.Accepted.{Content, read_of, most_bytes, most_pool}
 use Rattle.cv_bound.specs.declared.terms.Experiment.TheVariants.{Events}
 use Rattle.cv_bound.specs.Sums.{added}
@@ -424,11 +425,11 @@ AreClose r f =
     (k : ℕ) (e : Entry) (g : Game) → slice_get r.trail.items k ≡ Some e → e.next ≡ Some g
     → IsWithin (declared_in r) (contexts_in r) (game_in r f) (tree_at r.work.pool.trees (Some g.root)) (summed [] (map (λ x. x.cost) (take (k + 1) r.trail.items)))
 
-module _ (holds : (ds : List Declaration) → DerivationsHold ds) (unreached : (ds : List Declaration) → DerivedBodiesAreUnreached ds) (numbers : AreNumbers) (decided : AreDecided) (c : Content) (f : File) (r : Report) (bytes : List ℕ) (reads : read_of most_pool bytes ≡ Ok c) (few : length bytes ≤ most_bytes) where
+module _ (holds : (ds : List Declaration) → DerivationsHold ds) (unreached : (ds : List Declaration) → DerivedBodiesAreUnreached ds) (numbers : AreNumbers) (decided : AreDecided) (c : Content) (f : File) (r : Report) (source : Given) (reads : read_of most_pool source ≡ Ok c) (few : length source.bytes ≤ most_bytes) where
   close_content : (ts : List Transition) (last : Tree) → IsProof c.declarations (known_to c.own) c.game ts last → (rest : List Transition) → IsWithin c.declarations (contexts_along c.declarations c.own 1 c.game (ts ++ rest)) c.game last (summed [] (map (λ t. t.cost) ts))
   close_content ts last p rest =
-      let w = file_of bytes c reads holds unreached few in
-      close c.declarations c.own c.game w (valued bytes c reads w.ready) (taped bytes c reads) (closings_taped c.declarations c.own c.game (accepted most_pool bytes c reads).asked numbers decided) ts last p rest
+      let w = file_of source c reads holds unreached few in
+      close c.declarations c.own c.game w (valued source c reads w.ready) (taped source c reads) (closings_taped c.declarations c.own c.game (accepted most_pool source c reads).asked numbers decided) ts last p rest
 
   steps_close : r.file ≡ Some f → file_in r f (length c.names) ≡ c → TakesSteps r f → AreClose r f
   steps_close there held w k e g h n =

@@ -1,9 +1,9 @@
 -- What a cryptographic step names is what its items tell.
-use Rattle.std.proofs.Common.{◌≡◌, ℕ, Option, Some, None, refl, sym}
+use Rattle.std.proofs.Common.{◌≡◌, ℕ, Option, Some, None, refl}
 use Rattle.cv_script.specs.Views.{StepItems, adds_in, items_of_step, name_in, number_in, part_in, tree_in, ◌>>=◌}
 use Rattle.cv_script.specs.Views as items
 use Rattle.cv_syntax_trees.specs.declared.head.Head.TheVariants as head
-use Rattle.cv_syntax_trees.specs.Tree.{Tree, Empty, Node, first, second}
+use Rattle.cv_syntax_trees.specs.Tree.{Tree, Node, first, second}
 use Rattle.cv.specs.Contexts.{reduced_by}
 
 -- by the items of a step

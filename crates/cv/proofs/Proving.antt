@@ -23,6 +23,7 @@ use Rattle.cv_meaning_chances.specs.Fractions.{HasTapes}
 use Rattle.cv_meaning.specs.Queries.{queries_in}
 use Rattle.cv_query_certificates.specs.Accepted.{IsAccepted, IsEventsProof, IsSecretProof}
 use Rattle.cv_query_certificates.specs.Failures.{first_failure}
+use Rattle.cv_library.specs.Givens.{Given}
 use Rattle.cv_accept.specs.Accepted.{Content, read_of, most_bytes}
 use Rattle.cv_parse.proofs.Exactness.{says_is_said}
 use Rattle.cv_parse_sorts.proofs.queries.Closed.{queries_closed}
@@ -215,22 +216,22 @@ module _ (ds : List Declaration) (own : ℕ) (first : Tree) (w : IsFileOf ds own
 
 module _ (holds : (ds : List Declaration) → DerivationsHold ds) (unreached : (ds : List Declaration) → DerivedBodiesAreUnreached ds)
     (costs : AreWithinCosts) (numbers : AreNumbers) (for_many : AreSecretOfMany) (for_one : AreSecretOnce) (decided : AreDecided)
-    (c : Content) (f : File) (r : Report) (bytes : List ℕ) (reads : read_of most_pool bytes ≡ Ok c) (few : length bytes ≤ most_bytes) where
+    (c : Content) (f : File) (r : Report) (source : Given) (reads : read_of most_pool source ≡ Ok c) (few : length source.bytes ≤ most_bytes) where
   -- what its steps prove, with the contexts of the steps that were taken
   abbrev along : (r : Report) (f : File) → TakesSteps r f → Contexts
   along r f w = contexts_along (declared_in r) r.work.decls.own 1 (game_in r f) w.proof
 
-  sound_here : read_of most_pool bytes ≡ Ok (file_in r f (length c.names)) → (w : TakesSteps r f) → IsSoundFor (file_in r f (length c.names)) (along r f w) r.verdicts.items
+  sound_here : read_of most_pool source ≡ Ok (file_in r f (length c.names)) → (w : TakesSteps r f) → IsSoundFor (file_in r f (length c.names)) (along r f w) r.verdicts.items
   sound_here here w j query s q v =
       let d : Content = file_in r f (length c.names) in
-      let w_file = file_of bytes d here holds unreached few in
-      let p = file bytes d here in
+      let w_file = file_of source d here holds unreached few in
+      let p = file source d here in
       let signs = (signs_of p.tokens).signs in
       let said = says_is_said most_pool signs p.said p.says in
       let closed = subst (λ (x : Content). HasClosedQueries x.declarations) (sym p.content) (queries_closed most_pool signs p.said said p.typed) in
       let number : 1 + j ≡ suc j = omega arith in
       let sum = sym (ap (sum_of w.proof) number) ∙ verdict_at (sum_of w.proof) 1 (queries_in d.declarations) j s (ap (λ vs. slice_get vs j) (sym w.verdicts) ∙ v) in
-      closed_holds d.declarations d.own d.game w_file closed (accepted most_pool bytes d here).asked (valued_file bytes d here w_file.ready) (taped bytes d here) costs numbers for_many for_one decided w.proof w.last w.leads j query s q sum
+      closed_holds d.declarations d.own d.game w_file closed (accepted most_pool source d here).asked (valued_file source d here w_file.ready) (taped source d here) costs numbers for_many for_one decided w.proof w.last w.leads j query s q sum
 
   sound_taken : r.file ≡ Some f → file_in r f (length c.names) ≡ c → (w : TakesSteps r f) → IsSoundFor c (contexts_in r) r.verdicts.items
   sound_taken there same w =

@@ -1,5 +1,5 @@
 -- What a run over an accepted file answers.
-use Rattle.std.proofs.Common.{◌≡◌, ◌<◌, ◌≤◌, ℕ, Bool, true, false, List, length, refl, ap, sym, ◌∙◌, subst, Option, Some, None, Ok, inl, inr}
+use Rattle.std.proofs.Common.{◌≡◌, ◌<◌, ℕ, Bool, true, false, List, length, refl, ap, sym, ◌∙◌, subst, Option, Some, None, Ok, inl, inr}
 use Rattle.std.specs.Prelude.{All, IfSome, IsSome, MatchOption, slice_get}
 use Rattle.std.proofs.lemmas.List.Elements.{All-nil}
 use Rattle.std.specs.declared.vec.Vec.{Vec}
@@ -9,7 +9,8 @@ use Rattle.cv_syntax_trees.specs.Tree.{Tree}
 use Rattle.cv_script.specs.declared.steps.Step.{Step}
 use Rattle.cv_bound.specs.declared.terms.Term.{Term}
 use Rattle.cv_meaning.specs.Queries.{queries_in}
-use Rattle.cv_accept.specs.Accepted.{Content, IsFile, most_bytes, read_of}
+use Rattle.cv_library.specs.Givens.{Given}
+use Rattle.cv_accept.specs.Accepted.{Content, IsFile, read_of}
 use Rattle.cv_accept.specs.Works.{script_in}
 use Rattle.cv_accept.proofs.Readings.{read_is_file}
 use Rattle.cv_accept.specs.Accepted.{most_pool}
@@ -27,7 +28,7 @@ use Rattle.cv.specs.Values.{Contexts}
 use Rattle.cv_report.specs.outcome.Refused.{SaysNothing}
 use Rattle.cv.specs.Drawings.{HasDrawn}
 use Rattle.cv.specs.Strategy.{EndsBy, EndsWithout, HoldsUpTo, IsSound, Judged, Proceeds, ProceedsWithout, declared_in, file_in, game_in, is_games, moves_in, steps_in}
-use Rattle.cv.specs.Words.{AreTold}
+use Rattle.cv.specs.Words.{AreTold, IsShort}
 use Rattle.cv.proofs.Causing.{found_cause, script_cause_of}
 use Rattle.cv.proofs.Commands.{games_is}
 use Rattle.cv.proofs.Endings.{memory_answers, memory_cause, sound_without}
@@ -68,22 +69,22 @@ module _ (c : Content) (f : File) (r : Report) where
   }
   run_live (inr h) = h.live
 
-  module _ (bytes : List ℕ) (reads : read_of most_pool bytes ≡ Ok c) where
-    pub run_judged : Runs c f r → Judged r.command r.status bytes
-    run_judged (inl s) = subst (λ (t : Status). Judged r.command t bytes) (sym s.status) tt
-    run_judged (inr h) = judged_file r.command r.status bytes c reads (subst (λ (d : Content). EndsBy r.command d d.script r.status) h.content (ends (steps_in r) h.proceeds))
+  module _ (source : Given) (reads : read_of most_pool source ≡ Ok c) where
+    pub run_judged : Runs c f r → Judged r.command r.status source
+    run_judged (inl s) = subst (λ (t : Status). Judged r.command t source) (sym s.status) tt
+    run_judged (inr h) = judged_file r.command r.status source c reads (subst (λ (d : Content). EndsBy r.command d d.script r.status) h.content (ends (steps_in r) h.proceeds))
 
-    pub judged_under : (command : Command) → r.command ≡ command → Runs c f r → Judged command r.status bytes
-    judged_under command e h = subst (λ (d : Command). Judged d r.status bytes) e (run_judged h)
+    pub judged_under : (command : Command) → r.command ≡ command → Runs c f r → Judged command r.status source
+    judged_under command e h = subst (λ (d : Command). Judged d r.status source) e (run_judged h)
 
-    pub run_answers : (told : Option (List ℕ)) → length bytes ≤ most_bytes → AreTold told bytes → Runs c f r → Answers told r
+    pub run_answers : (told : Option Given) → IsShort source → AreTold told source → Runs c f r → Answers told r
     run_answers told few a (inl s) = memory_answers told r s.file s.nothing s.status
     run_answers told few a (inr h) = record {
-      bytes = bytes;
+      source = source;
       agree = a;
       short = λ s. few;
       names = length c.names;
-      file = subst (λ (o : Option File). IfSome o (λ g. IsFile most_pool bytes (file_in r g (length c.names)))) (sym h.file) (read_is_file most_pool bytes (file_in r f (length c.names)) (reads ∙ ap Ok (sym h.content)));
+      file = subst (λ (o : Option File). IfSome o (λ g. IsFile most_pool source (file_in r g (length c.names)))) (sym h.file) (read_is_file most_pool source (file_in r f (length c.names)) (reads ∙ ap Ok (sym h.content)));
       drawn = subst (λ (o : Option File). IfSome o (λ g. HasDrawn r (file_in r g (length c.names)))) (sym h.file) (subst (HasDrawn r) (sym h.content) h.drawn);
       follows = subst (λ (o : Option File). MatchOption o (SaysNothing r) (λ g. Proceeds r g (steps_in r))) (sym h.file) h.proceeds;
       given = λ s. subst (λ (o : Option File). IsSome o) (sym h.file) refl;
@@ -92,7 +93,7 @@ module _ (c : Content) (f : File) (r : Report) where
       judged = λ s. run_judged (inr h);
     }
 
-    pub run_cause : (o : Outside) → AreTold o.told bytes → Runs c f r → ComesFrom o r r.status
+    pub run_cause : (o : Outside) → AreTold o.told source → Runs c f r → ComesFrom o r r.status
     run_cause o a (inl s) = memory_cause o r s.status
     run_cause o a (inr h) = go r.script refl
       where

@@ -7,6 +7,7 @@ use Rattle.cv_syntax.specs.declared.work.Game.{Game}
 use Rattle.cv_syntax_trees.specs.Declarations.{Declaration}
 use Rattle.cv_syntax_trees.specs.Tree.{Tree}
 use Rattle.cv_syntax.specs.PoolTrees.{tree_at}
+use Rattle.cv_library.specs.Givens.{Given}
 use Rattle.cv_accept.specs.Accepted.{Content, read_of, most_bytes}
 use Rattle.cv_sequences.proofs.files.Ready.{file_of, taped, valued}
 use Rattle.cv_derive_laws.specs.stores.Soundness.{DerivationsHold, DerivedBodiesAreUnreached}
@@ -130,11 +131,11 @@ AreCloseSteps r f =
     (k : ℕ) (e : Entry) (g : Game) → slice_get r.trail.items k ≡ Some e → e.next ≡ Some g
     → IsCloseStep (declared_in r) (contexts_in r) (game_along r.work.pool.trees (game_in r f) (take k r.trail.items)) (tree_at r.work.pool.trees (Some g.root)) e.cost
 
-module _ (holds : (ds : List Declaration) → DerivationsHold ds) (unreached : (ds : List Declaration) → DerivedBodiesAreUnreached ds) (c : Content) (f : File) (r : Report) (bytes : List ℕ) (reads : read_of most_pool bytes ≡ Ok c) (few : length bytes ≤ most_bytes) where
+module _ (holds : (ds : List Declaration) → DerivationsHold ds) (unreached : (ds : List Declaration) → DerivedBodiesAreUnreached ds) (c : Content) (f : File) (r : Report) (source : Given) (reads : read_of most_pool source ≡ Ok c) (few : length source.bytes ≤ most_bytes) where
   content_steps : HasStepsFrom c.declarations c.own c.game
   content_steps =
-      let w = file_of bytes c reads holds unreached few in
-      close_step c.declarations c.own c.game w (valued bytes c reads w.ready) (taped bytes c reads)
+      let w = file_of source c reads holds unreached few in
+      close_step c.declarations c.own c.game w (valued source c reads w.ready) (taped source c reads)
 
   steps_step : r.file ≡ Some f → file_in r f (length c.names) ≡ c → TakesSteps r f → AreCloseSteps r f
   steps_step there held w k e g h n =

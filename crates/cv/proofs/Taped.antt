@@ -4,6 +4,7 @@ use Rattle.std.specs.Prelude.{Contains, slice_get}
 use Rattle.cv_syntax_trees.specs.declared.head.Head.TheVariants.{Query, Secret, SecretOnce}
 use Rattle.cv_syntax_trees.specs.Declarations.{Declaration}
 use Rattle.cv_syntax_trees.specs.Tree.{Tree, Empty, Node}
+use Rattle.cv_library.specs.Givens.{Given}
 use Rattle.cv_accept.specs.Accepted.{Content, most_bytes, read_of}
 use Rattle.cv_accept.proofs.Readings.{accepted}
 use Rattle.cv_sequences.proofs.files.Ready.{file_of, valued}
@@ -82,6 +83,6 @@ module _ (ds : List Declaration) (game : Tree) (asked : AreAsked game (queries_i
 abbrev pub HaveTapedAdvantages : Content → Type 0
 HaveTapedAdvantages c = (k : ℕ) (query : Tree) → slice_get (queries_in c.declarations) k ≡ Some query → (i : Interpretation) → Satisfies c.declarations i → (a : Adversary) → HasTapes (advantage (setting_of c.declarations i) query a c.game)
 
-pub advantages_of_file : ((ds : List Declaration) → DerivationsHold ds) → ((ds : List Declaration) → DerivedBodiesAreUnreached ds) → (c : Content) (bytes : List ℕ) (reads : read_of most_pool bytes ≡ Ok c) → length bytes ≤ most_bytes → HaveTapedAdvantages c
-advantages_of_file holds unreached c bytes reads few =
-    advantage_taped c.declarations c.game (accepted most_pool bytes c reads).asked (valued bytes c reads (file_of bytes c reads holds unreached few).ready)
+pub advantages_of_file : ((ds : List Declaration) → DerivationsHold ds) → ((ds : List Declaration) → DerivedBodiesAreUnreached ds) → (c : Content) (source : Given) (reads : read_of most_pool source ≡ Ok c) → length source.bytes ≤ most_bytes → HaveTapedAdvantages c
+advantages_of_file holds unreached c source reads few =
+    advantage_taped c.declarations c.game (accepted most_pool source c reads).asked (valued source c reads (file_of source c reads holds unreached few).ready)

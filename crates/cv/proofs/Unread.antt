@@ -1,6 +1,5 @@
 -- Tokens that the grammar refuses, whatever the depth, and tokens that stand too deep.
-use Rattle.std.proofs.Common.{◌≡◌, ℕ, List, [], ◌∷◌, length, refl, subst, Ok, Err}
-use Rattle.cv_parse_notation.specs.Local.{SameFirst}
+use Rattle.std.proofs.Common.{◌≡◌, ℕ, List, length, refl, subst, Ok, Err}
 use Rattle.cv_parse_notation.specs.Reads.{Read}
 use Rattle.cv_parse_notation.specs.Reads as fault
 use Rattle.cv_parse_notation.specs.declared.sign.Sign.{Sign}

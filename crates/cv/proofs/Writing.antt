@@ -1,6 +1,7 @@
 -- How a run ends whose report isn't written to its end.
-use Rattle.std.proofs.Common.{◌≡◌, ℕ, List, Option, refl, sym, ◌∙◌, subst, ◌⊎◌, inl, inr}
+use Rattle.std.proofs.Common.{◌≡◌, List, Option, refl, sym, ◌∙◌, subst, ◌⊎◌, inl, inr}
 use Rattle.std.specs.Prelude.{◌≢◌}
+use Rattle.cv_library.specs.Givens.{Given}
 use Rattle.cv_report.specs.declared.report.Command.{Command}
 use Rattle.cv_report.specs.declared.report.Command.TheVariants as command
 use Rattle.cv_report.specs.declared.report.Report.{Report}
@@ -52,7 +53,7 @@ kept_words words old new (inr m) h = record {
   sample = λ s. inr m.status;
 }
 
-pub kept_answers : (told : Option (List ℕ)) (old new : Report) → (new ≡ old) ⊎ SaysMemory old.command new → Answers told old → Answers told new
+pub kept_answers : (told : Option Given) (old new : Report) → (new ≡ old) ⊎ SaysMemory old.command new → Answers told old → Answers told new
 kept_answers told old new (inl e) h = subst (Answers told) (sym e) h
 kept_answers told old new (inr m) h = memory_answers told new m.file m.nothing m.status
 
@@ -60,9 +61,9 @@ pub kept_cause : (o : Outside) (old new : Report) → (new ≡ old) ⊎ SaysMemo
 kept_cause o old new (inl e) h = subst (λ (r : Report). ComesFrom o r r.status) (sym e) h
 kept_cause o old new (inr m) h = subst (ComesFrom o new) (sym m.status) cause.memory
 
-pub kept_complete : (c : Command) (bytes : List ℕ) (old new : Report) → (new ≡ old) ⊎ SaysMemory old.command new → IsComplete c bytes old.status → IsComplete c bytes new.status
-kept_complete c bytes old new (inl e) h = subst (λ (r : Report). IsComplete c bytes r.status) (sym e) h
-kept_complete c bytes old new (inr m) h = subst (IsComplete c bytes) (sym m.status) (record { short = λ k. tt; long = λ k. inr refl })
+pub kept_complete : (c : Command) (source : Given) (old new : Report) → (new ≡ old) ⊎ SaysMemory old.command new → IsComplete c source old.status → IsComplete c source new.status
+kept_complete c source old new (inl e) h = subst (λ (r : Report). IsComplete c source r.status) (sym e) h
+kept_complete c source old new (inr m) h = subst (IsComplete c source) (sym m.status) (record { short = λ k. tt; long = λ k. inr refl })
 
 -- a status of writing comes of a fault of the sink
 pub by_sink : (s : Status) (old new : Report) (Faulted : Type 0) → (new ≡ old) ⊎ SaysMemory old.command new → old.status ≢ status.Write → (s ≡ new.status) ⊎ ((s ≡ status.Write) × Faulted) → s ≡ status.Write → Faulted

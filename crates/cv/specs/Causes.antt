@@ -5,6 +5,10 @@ use Rattle.cv_outside.specs.Causes.{Rose}
 use Rattle.cv_outside.specs.Told.{Files}
 use Rattle.cv_lex.specs.declared.LexError.{LexError}
 use Rattle.cv_lex.specs.Lexis.{Token, tokens_of}
+use Rattle.cv_library.specs.Givens.{Given, tokens_given}
+use Rattle.cv_library.specs.declared.error.ExpandError.{ExpandError}
+use Rattle.cv_library.specs.declared.error.GivenError.TheVariants as given
+use Rattle.cv_library.specs.declared.error.LibraryError.{LibraryError}
 use Rattle.cv_parse_tables.specs.terminals.ScriptSigns.{between, script_signs}
 use Rattle.cv_parse_tables.specs.terminals.Signs.{signs_of}
 use Rattle.cv_script_laws.specs.forms.Scripts.{IsSomeScript}
@@ -32,28 +36,28 @@ use Rattle.cv_meaning.specs.Queries.{queries_in}
 use Rattle.cv_query_form.specs.Rules.{IsFirstRefused}
 use Rattle.cv_syntax_trees.specs.Tree.{Tree}
 use Rattle.cv_syntax.specs.declared.work.File.{File}
-use Rattle.cv_accept.specs.Accepted.{IsFull, block_of, most_bytes, most_pool}
+use Rattle.cv_accept.specs.Accepted.{IsFull, block_of, most_pool}
 use Rattle.cv_accept.specs.Places.{nodes_before}
 use Rattle.cv_outside.specs.words.Forms.{Asked}
-use Rattle.cv_report.specs.declared.report.FileFault.TheVariants.{Lex, Parse, Script, Types, Scope, Group, Query}
+use Rattle.cv_report.specs.declared.report.FileFault.TheVariants.{Lex, LibraryLex, Library, Expand, Parse, Script, Types, Scope, Group, Query}
 use Rattle.cv_report.specs.declared.report.Cause.TheVariants.{Moves, NoClose, Stuck}
 use Rattle.cv_report.specs.declared.report.Command.TheVariants as command
 use Rattle.cv_report.specs.declared.report.Report.{Report}
 use Rattle.cv_report.specs.declared.report.Status.{Status}
 use Rattle.cv_report.specs.declared.report.Status.TheVariants as status
-use Rattle.cv_report.specs.declared.report.Which.TheVariants.{Depth, Nodes, Pool, File as FileLimit}
+use Rattle.cv_report.specs.declared.report.Which.TheVariants.{Depth, Nodes, Pool, Tokens, File as FileLimit}
 use Rattle.cv_report.specs.declared.report.Which.{Which}
 use Rattle.cv_steps.specs.Sequences.{scene}
 use Rattle.cv_follow.specs.Scripts.{Stops, first_open, is_proved, known_to}
 use Rattle.cv_follow.specs.Fillings.{StandsFor}
 use Rattle.cv_follow.specs.Searches.{AreMoves, Passes}
 use Rattle.cv.specs.Strategy.{declared_in, game_in, moves_in, nodes_in, steps_in}
-use Rattle.cv.specs.Words.{bytes_asked, text_asked}
+use Rattle.cv.specs.Words.{IsLong, source_asked, text_asked}
 
--- The bytes have tokens, of which this holds.
-pub record OfTokens (bytes : List ℕ) (Holds : List Token → Type 0) : Type 0 where
+-- The source has tokens, of which this holds.
+pub record OfTokens (source : Given) (Holds : List Token → Type 0) : Type 0 where
   pub tokens : List Token
-  pub lexed : tokens_of bytes ≡ Ok tokens
+  pub given : tokens_given source ≡ Ok tokens
   pub holds : Holds tokens
 
 -- the signs of a proof block
@@ -178,25 +182,26 @@ pub record HasAllSteps (r : Report) (f : File) : Type 0 where
   pub last : Tree
   pub leads : IsProof (declared_in r) (known_to r.work.decls.own) (game_in r f) proof last
 
--- what is known of the outside: what the words ask for, the told bytes that this reads, and the faults of the shelf, before and after
+-- what is known of the outside: what the words ask for, the told source that this reads, and the faults of the shelf, before and after
 pub record Outside : Type 0 where
   pub asked : Option Asked
-  pub told : Option (List ℕ)
+  pub told : Option Given
   pub before : ℕ
   pub after : ℕ
 
 abbrev pub outside_of : Option Files → Option Asked → ℕ → ℕ → Outside
-outside_of files asked before after = record { asked = asked; told = bytes_asked files asked; before = before; after = after }
+outside_of files asked before after = record { asked = asked; told = source_asked files asked; before = before; after = after }
 
--- where bytes are told, they have tokens of which this holds, or tokens with signs of which this holds
+-- where a source is told, it has tokens of which this holds, or tokens with signs of which this holds
 
 abbrev pub OfTold : Outside → (List Token → Type 0) → Type 0
-OfTold o Holds = IfSome o.told (λ bytes. OfTokens bytes Holds)
+OfTold o Holds = IfSome o.told (λ source. OfTokens source Holds)
 
 abbrev pub OfSigns : Outside → (List Sign → Type 0) → Type 0
 OfSigns o Holds = OfTold o (λ tokens. Holds (signs_of tokens).signs)
 
--- The table of causes: what each answer comes from. What is said of bytes is said of told ones.
+-- The table of causes: what each answer comes from. What is said of a source is said of a told one. All tokens are those of the expanded
+-- file.
 pub data ComesFrom (o : Outside) (r : Report) : Status → Type 0 where
   all_proved : list_all is_proved r.verdicts.items ≡ true → ComesFrom o r status.Proved
   stuck : {made : ℕ} → made < moves_in r.command → IsSomeAnd r.file (λ f. LeavesOpen r f made) → ComesFrom o r (status.Open Stuck)
@@ -209,8 +214,12 @@ pub data ComesFrom (o : Outside) (r : Report) : Status → Type 0 where
   sampled : IsSome (option_and_then text_asked o.asked) → ComesFrom o r status.Done
   words : IsNone o.asked → ComesFrom o r status.Words
   read : Rose o.before o.after → ComesFrom o r status.Read
-  long : IfSome o.told (λ bytes. most_bytes < length bytes) → ComesFrom o r (status.Limit FileLimit)
-  no_tokens : {e : LexError} → IfSome o.told (λ bytes. tokens_of bytes ≡ Err e) → ComesFrom o r (status.FileRefused (Lex e))
+  long : IfSome o.told IsLong → ComesFrom o r (status.Limit FileLimit)
+  no_tokens : {e : LexError} → IfSome o.told (λ source. tokens_of source.bytes ≡ Err e) → ComesFrom o r (status.FileRefused (Lex e))
+  library_without_tokens : {e : LexError} → IfSome o.told (λ source. tokens_given source ≡ Err (given.LibraryLex e)) → ComesFrom o r (status.FileRefused (LibraryLex e))
+  no_library : {e : LibraryError} → IfSome o.told (λ source. tokens_given source ≡ Err (given.Library e)) → ComesFrom o r (status.FileRefused (Library e))
+  not_expanded : {e : ExpandError} → IfSome o.told (λ source. tokens_given source ≡ Err (given.Expand e)) → ComesFrom o r (status.FileRefused (Expand e))
+  tokens : {count : ℕ} → IfSome o.told (λ source. tokens_given source ≡ Err (given.Tokens count)) → ComesFrom o r (status.Limit (Tokens count))
   syntax : {token : ℕ} → OfSigns o (λ signs. IsDeadAtEveryDepth signs token) → ComesFrom o r (status.FileRefused (Parse (Syntax token)))
   nesting : {token : ℕ} → OfSigns o (λ signs. IsNestedTooDeep signs token) → ComesFrom o r (status.FileRefused (Parse (Nesting token)))
   name_twice : {token : ℕ} → OfSigns o (λ signs. IsMisnamedAt signs names.NameTwice token) → ComesFrom o r (status.FileRefused (Parse (NameTwice token)))
@@ -223,5 +232,5 @@ pub data ComesFrom (o : Outside) (r : Report) : Status → Type 0 where
   nodes : {count : ℕ} → OfSigns o (λ signs. IsLarge signs (HasNodes count)) → ComesFrom o r (status.Limit (Nodes count))
   deep : {depth : ℕ} → OfSigns o (λ signs. IsLarge signs (HasDepth depth)) → ComesFrom o r (status.Limit (Depth depth))
   pool : {need : ℕ} → IsNone r.file → most_pool < need → OfSigns o (λ signs. IsLarge signs (HasWeight most_pool need)) → ComesFrom o r (status.Limit (Pool need))
-  script_room : {need : ℕ} → IsNone r.file → IfSome o.told (λ bytes. IsFull most_pool bytes need) → ComesFrom o r (status.Limit (Pool need))
+  script_room : {need : ℕ} → IsNone r.file → IfSome o.told (λ source. IsFull most_pool source need) → ComesFrom o r (status.Limit (Pool need))
   memory : ComesFrom o r status.Memory

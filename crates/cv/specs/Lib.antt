@@ -5,6 +5,7 @@ pub mod Contexts
 pub mod Faults
 pub mod Games
 pub mod Runs
+pub mod Sources
 pub mod Steps
 pub mod Strategy
 pub mod Values

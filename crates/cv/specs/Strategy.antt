@@ -18,7 +18,8 @@ use Rattle.cv_kernel.specs.Proofs.{IsProof, Transition, closed_by, nodes_along}
 use Rattle.cv_kernel.specs.Sayings.{Accepted, IsSaid, Saying}
 use Rattle.cv_kernel.specs.Sequences.{context_nodes, needed_for}
 use Rattle.cv_accept.specs.declared.error.FileError.{FileError}
-use Rattle.cv_accept.specs.Accepted.{Content, IsFile, IsFull, most_bytes, most_pool, read_of}
+use Rattle.cv_accept.specs.Accepted.{Content, IsFile, IsFull, most_pool, read_of}
+use Rattle.cv_library.specs.Givens.{Given}
 use Rattle.cv_accept.specs.Works.{content_at, content_in, content_nodes, script_in}
 use Rattle.cv_meaning.specs.Queries.{queries_in}
 use Rattle.cv_report.specs.declared.report.Cause.TheVariants.{NoClose}
@@ -29,7 +30,7 @@ use Rattle.cv_report.specs.declared.report.Status.{Status}
 use Rattle.cv_report.specs.declared.report.Status.TheVariants as status
 use Rattle.cv_report.specs.declared.report.Verdict.{Verdict}
 use Rattle.cv_report.specs.declared.report.Verdict.TheVariants.{NotProved, Proved}
-use Rattle.cv_report.specs.declared.report.Which.TheVariants.{Depth, Nodes, Pool, Steps}
+use Rattle.cv_report.specs.declared.report.Which.TheVariants.{Depth, Nodes, Pool, Steps, Tokens}
 use Rattle.cv_scene.specs.Scenes.{Scene}
 use Rattle.cv_script.specs.Views.{StepItems, items_of_step}
 use Rattle.cv_script.specs.Views as items
@@ -41,6 +42,7 @@ use Rattle.cv_follow.specs.Scripts.{EndsScript, Follows, entry_in, entry_of, fir
 use Rattle.cv_follow.specs.Fillings.{StandsFor, has_word}
 use Rattle.cv_follow.specs.Searches.{AreMoves, EndsSearch, Finds}
 use Rattle.cv.specs.Values.{Contexts, value_of}
+use Rattle.cv.specs.Words.{IsShort}
 
 -- `games` asks for no verdicts
 
@@ -85,22 +87,23 @@ abbrev pub EndsBy : Command → Content → Option (List Tree) → Status → Ty
 EndsBy c f None end = EndsWithout (is_games c) (moves_in c) f end
 EndsBy c f (Some steps) end = EndsBlock c f steps end
 
--- the status is one of a file, or of bytes that are refused
+-- the status is one of a file, or of a source that is refused
 abbrev pub IsExpected : Command → Result Content FileError → Status → Type 0
 IsExpected c (Err e) s = s ≡ ended_by e
 IsExpected c (Ok f) s = EndsBy c f f.script s
 
--- The status is one that these bytes have, unless memory ended the run. The pool may have no room for a proof block.
-abbrev pub Judged : Command → Status → List ℕ → Type 0
-Judged c status.Memory bytes = Unit {0}
-Judged c (status.Limit (Pool need)) bytes = IsExpected c (read_of most_pool bytes) (status.Limit (Pool need)) ⊎ IsFull most_pool bytes need
-Judged c s bytes = IsExpected c (read_of most_pool bytes) s
+-- The status is one that this source has, unless memory ended the run. The pool may have no room for a proof block.
+abbrev pub Judged : Command → Status → Given → Type 0
+Judged c status.Memory source = Unit {0}
+Judged c (status.Limit (Pool need)) source = IsExpected c (read_of most_pool source) (status.Limit (Pool need)) ⊎ IsFull most_pool source need
+Judged c s source = IsExpected c (read_of most_pool source) s
 
--- the status speaks of the bytes of a file
+-- the status speaks of a file or its library
 abbrev pub SpeaksOfFile : Status → Type 0
 SpeaksOfFile status.Proved = Unit {0}
 SpeaksOfFile (status.Open cause) = Unit {0}
 SpeaksOfFile (status.FileRefused fault) = Unit {0}
+SpeaksOfFile (status.Limit (Tokens count)) = Unit {0}
 SpeaksOfFile (status.Limit (Nodes count)) = Unit {0}
 SpeaksOfFile (status.Limit (Depth depth)) = Unit {0}
 SpeaksOfFile (status.Limit (Pool need)) = Unit {0}
@@ -217,10 +220,10 @@ pub record AcceptsAll (f : Content) (steps : List Tree) : Type 0 where
   pub closed : (proof : List Transition) (last : Tree) → steps ≡ map (λ t. t.step) proof → IsProof f.declarations (known_to f.own) f.game proof last → first_open (closed_by proof) 1 (queries_in f.declarations) ≡ None
 
 -- A file within the limits that is proved: the steps of its proof block are all accepted, and the word isn't among them.
-pub record IsGood (bytes : List ℕ) : Type 0 where
-  pub short : length bytes ≤ most_bytes
+pub record IsGood (source : Given) : Type 0 where
+  pub short : IsShort source
   pub content : Content
-  pub file : IsFile most_pool bytes content
+  pub file : IsFile most_pool source content
   pub steps : List Tree
   pub script : content.script ≡ Some steps
   pub plain : has_word steps ≡ false

@@ -1,9 +1,10 @@
-ghost use Rattle.std.specs.Prelude.{◌≡◌, ◌<◌, ◌≤◌, IfOk, IfSome, IsErrOf, Some, length};
+ghost use Rattle.std.specs.Prelude.{◌≡◌, ◌∷◌, IfOk, IfSome, IsErrOf, Some, option_map};
 ghost use Rattle.cv_outside.specs.Causes.{Rose};
 ghost use Rattle.cv_outside.specs.words.sample.Samples.{file_of as sample_of};
 ghost use Rattle.cv_outside.specs.words.Words.{asked_of};
 ghost use Rattle.cv.specs.Strategy.{ends_under, is_games as games, moves_in, shown};
-ghost use Rattle.cv.specs.Words.{AreTold, AsksOnly, bytes_asked, command_of as command_by, file_asked, text_asked as text_by};
+ghost use Rattle.cv.specs.Sources.{given_of};
+ghost use Rattle.cv.specs.Words.{AreTold, AsksOnly, IsLong, IsShort, alone, command_of as command_by, files_asked, library_asked, source_asked, source_under, text_asked as text_by};
 
 use cv_outside::words::Request;
 use cv_outside::words::sample::file_of;
@@ -23,8 +24,12 @@ pub fn command_of(request: Request<'_>) -> Command
             file: _,
             moves,
             more,
+            library: _,
         } => Command::Prove { moves, more },
-        Request::Games { file: _ } => Command::Games,
+        Request::Games {
+            file: _,
+            library: _,
+        } => Command::Games,
         Request::Sample { number, prove } => Command::Sample { number, prove },
     }
 }
@@ -46,8 +51,12 @@ pub fn text_asked(request: Request<'_>) -> Option<u32>
             file: _,
             moves: _,
             more: _,
+            library: _,
         } => None,
-        Request::Games { file: _ } => None,
+        Request::Games {
+            file: _,
+            library: _,
+        } => None,
     }
 }
 
@@ -123,12 +132,19 @@ pub fn end_under(command: Command, status: Status) -> Status
     }
 }
 
+/// What a request reads: the bytes of a file or a sample, and those of a library where one is named.
+#[derive(Drop)]
+pub struct Fetched {
+    pub bytes: Vec<u8>,
+    pub library: Option<Vec<u8>>,
+}
+
 /// The bytes of a sample.
-fn sample(alloc: Global, number: u32) -> Result<Vec<u8>, FetchError>
-    ensures bytes { IfOk result (λ v. v.items ≡ sample_of number) }
-    ensures few { IfOk result (λ v. length v.items ≤ 1048576) }
+fn sample(alloc: Global, number: u32) -> Result<Fetched, FetchError>
+    ensures bytes { IfOk result (λ s. given_of s ≡ alone (sample_of number)) }
+    ensures few { IfOk result (λ s. IsShort (given_of s)) }
     ensures never { ¬ IsErrOf result FetchError.Failed }
-    ensures long { IsErrOf result FetchError.Long → 1048576 < length (sample_of number) }
+    ensures long { IsErrOf result FetchError.Long → IsLong (alone (sample_of number)) }
 {
     let Ok(bytes) = file_of(alloc, number) else {
         return Err(FetchError::OutOfMemory);
@@ -136,25 +152,61 @@ fn sample(alloc: Global, number: u32) -> Result<Vec<u8>, FetchError>
     if bytes.len() > MOST_BYTES {
         return Err(FetchError::Long);
     }
-    Ok(bytes)
+    Ok(Fetched {
+        bytes,
+        library: None,
+    })
 }
 
-/// The bytes that a request reads: those of its file, for which the shelf is asked, or of a sample.
+/// The bytes of a file, for which the shelf is asked, and directly behind it those of a library.
+#[tactic(auto, using(crate::proofs::Sources::sources))]
+fn with_library<F: Shelf>(
+    alloc: Global,
+    file: &str,
+    library: Option<&str>,
+    shelf: &mut F,
+) -> Result<Fetched, FetchError>
+    ensures told { IfOk result (λ s. AreTold
+        (source_under (F.told shelf.old) file.now (option_map (λ l. l.now) library.entry))
+        (given_of s)) }
+    ensures few { IfOk result (λ s. IsShort (given_of s)) }
+    ensures failed { IsErrOf result FetchError.Failed
+        → Rose (F.faults shelf.old) (F.faults shelf.new) }
+    ensures long { IsErrOf result FetchError.Long
+        → IfSome (source_under (F.told shelf.old) file.now
+        (option_map (λ l. l.now) library.entry)) IsLong }
+    ensures asked { AsksOnly (file.now ∷ library_asked (option_map (λ l. l.now) library.entry))
+        (F.asked shelf.old) (F.asked shelf.new) }
+{
+    let bytes = shelf.fetch(alloc, file, MOST_BYTES)?;
+    let Some(name) = library else {
+        return Ok(Fetched {
+            bytes,
+            library: None,
+        });
+    };
+    let more = shelf.fetch(alloc, name, MOST_BYTES)?;
+    Ok(Fetched {
+        bytes,
+        library: Some(more),
+    })
+}
+
+/// What a request reads: its file and its library, or a sample.
 #[tactic(auto, using(crate::proofs::Sources::sources))]
 pub fn source<F: Shelf>(
     alloc: Global,
     request: Request<'_>,
     shelf: &mut F,
-) -> Result<Vec<u8>, FetchError>
-    ensures told { IfOk result (λ v.
-        AreTold (bytes_asked (F.told shelf.old) (Some (asked_of request.entry))) v.items) }
-    ensures few { IfOk result (λ v. length v.items ≤ 1048576) }
+) -> Result<Fetched, FetchError>
+    ensures told { IfOk result (λ s. AreTold
+        (source_asked (F.told shelf.old) (Some (asked_of request.entry))) (given_of s)) }
+    ensures few { IfOk result (λ s. IsShort (given_of s)) }
     ensures failed { IsErrOf result FetchError.Failed
         → Rose (F.faults shelf.old) (F.faults shelf.new) }
     ensures long { IsErrOf result FetchError.Long
-        → IfSome (bytes_asked (F.told shelf.old) (Some (asked_of request.entry)))
-        (λ bytes. 1048576 < length bytes) }
-    ensures asked { AsksOnly (file_asked (Some (asked_of request.entry)))
+        → IfSome (source_asked (F.told shelf.old) (Some (asked_of request.entry))) IsLong }
+    ensures asked { AsksOnly (files_asked (Some (asked_of request.entry)))
         (F.asked shelf.old) (F.asked shelf.new) }
 {
     match request {
@@ -162,8 +214,9 @@ pub fn source<F: Shelf>(
             file,
             moves: _,
             more: _,
-        } => shelf.fetch(alloc, file, MOST_BYTES),
-        Request::Games { file } => shelf.fetch(alloc, file, MOST_BYTES),
+            library,
+        } => with_library(alloc, file, library, shelf),
+        Request::Games { file, library } => with_library(alloc, file, library, shelf),
         Request::Sample {
             number,
             prove: true,

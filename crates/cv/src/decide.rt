@@ -1,10 +1,11 @@
-ghost use Rattle.std.specs.Prelude.{◌≡◌, ◌<◌, ◌≤◌, [], ℕ, All, IfSome, List, None, Option, Some, length};
+ghost use Rattle.std.specs.Prelude.{◌≡◌, ◌<◌, ◌≤◌, [], All, IfOk, IfSome, None, OnOk, Option, Some, length, option_map};
+ghost use Rattle.cv_library.specs.Givens.{Given};
 ghost use Rattle.cv_syntax.specs.Declarations.{declarations};
 ghost use Rattle.cv_syntax_trees.specs.Tree.{size};
 ghost use Rattle.cv_syntax.specs.PoolTrees.{tree_at};
 ghost use Rattle.cv_parse.specs.Declaring.{IsBelow};
 ghost use Rattle.cv_scope_rules.specs.Phrases.{IsWellFormed};
-ghost use Rattle.cv_accept.specs.Works.{HasSteps, content_at, content_nodes};
+ghost use Rattle.cv_accept.specs.Works.{HasSteps, Reads, content_at, content_nodes};
 ghost use Rattle.cv_accept.specs.Accepted.{most_pool};
 ghost use Rattle.cv_report.specs.Text.{IsLive};
 ghost use Rattle.cv_scene_view.specs.Kept.{scene_of};
@@ -16,14 +17,15 @@ ghost use Rattle.cv.specs.Runs.{Runs};
 ghost use Rattle.cv.specs.Calls.{HasBoundedCalls};
 ghost use Rattle.cv.specs.Steps.{HasCloseSteps};
 ghost use Rattle.cv.specs.Strategy.{IsSound, Judged};
-ghost use Rattle.cv.specs.Words.{AreTold};
+ghost use Rattle.cv.specs.Sources.{given_of};
+ghost use Rattle.cv.specs.Words.{AreTold, IsShort};
 
-use crate::asked::is_games;
+use crate::asked::{Fetched, is_games};
 use crate::refusal::status_of;
 use crate::script::run_script;
 use crate::shown::run_games;
 use crate::strategy::run_strategy;
-use cv_accept::{Accepted, read};
+use cv_accept::{Accepted, FileError, read};
 use cv_derive_laws::reached::derivations_are_sound;
 use cv_query_certificates::accepted_exactly_where_nothing_fails;
 use cv_query_injections::accepted_correspondences_are_within_their_costs;
@@ -78,24 +80,59 @@ fn run_accepted(alloc: Global, work: Work, command: Command, accepted: Accepted)
     }
 }
 
-/// Reads the bytes of a file into an empty work, and follows its proof block, or applies the strategy; where its games are
+/// The bytes of a library, where there is one.
+fn library_of(source: &Fetched) -> Option<&[u8]>
+    requires { IsShort (given_of source.now) }
+    ensures same { option_map (λ more. more.now) result ≡ (given_of source.now).library }
+    ensures few { IfSome result (λ more. length more.now ≤ 1048576) }
+{
+    match &source.library {
+        Some(bytes) => Some(bytes.as_slice()),
+        None => None,
+    }
+}
+
+/// Reads what was fetched into an empty work.
+fn read_source(alloc: Global, work: &mut Work, source: &Fetched) -> Result<Accepted, FileError>
+    requires names { work.old.names ≡ [] }
+    requires decls { work.old.decls.list ≡ [] }
+    requires trees { work.old.pool.trees ≡ [] }
+    requires limit { work.old.pool.limit ≡ most_pool }
+    requires few { IsShort (given_of source.now) }
+    ensures reads { Reads work.old.pool.limit (given_of source.now) work.new result }
+    ensures live { IfOk result (λ f. f.file.game.root.0 < length work.new.pool.trees) }
+    ensures fits { IfOk result (λ f. size (tree_at work.new.pool.trees (Some f.file.game.root))
+        ≤ 50000) }
+    ensures nodes { IfOk result (λ f. length work.new.pool.trees
+        ≤ content_nodes (content_at work.new f.file.game.root f.script)) }
+    ensures steps { IfOk result (λ f. IfSome f.script (λ s.
+        HasSteps work.new.pool.limit work.new.pool.trees s.items)) }
+    ensures limit { work.new.pool.limit ≡ work.old.pool.limit }
+    ensures below { OnOk result (All (IsBelow (length work.new.pool.trees)) work.new.decls.list) }
+{
+    read(alloc, work, &source.bytes, library_of(source))
+}
+
+/// Reads a source into an empty work, and follows its proof block, or applies the strategy; where its games are
 /// asked for it applies none.
 #[tactic(auto, using(crate::proofs::Endings::without_file))]
-pub fn judge(alloc: Global, work: Work, command: Command, bytes: &[u8]) -> Report
+pub fn judge(alloc: Global, work: Work, command: Command, source: &Fetched) -> Report
     requires names { work.names ≡ [] }
     requires decls { work.decls.list ≡ [] }
     requires trees { work.pool.trees ≡ [] }
     requires limit { work.pool.limit ≡ most_pool }
-    requires few { length bytes.now ≤ 1048576 }
+    requires few { IsShort (given_of source.now) }
     ensures sound { IsSound result }
     ensures games { HasCloseGames result }
     ensures steps { HasCloseSteps result }
     ensures calls { HasBoundedCalls result }
     ensures command { result.command ≡ command }
     ensures live { IsLive result }
-    ensures answers { (told : Option (List ℕ)) → AreTold told bytes.now → Answers told result }
-    ensures cause { (o : Outside) → AreTold o.told bytes.now → ComesFrom o result result.status }
-    ensures judged { Judged command result.status bytes.now }
+    ensures answers { (told : Option Given) → AreTold told (given_of source.now)
+        → Answers told result }
+    ensures cause { (o : Outside) → AreTold o.told (given_of source.now)
+        → ComesFrom o result result.status }
+    ensures judged { Judged command result.status (given_of source.now) }
 {
     derivations_are_sound();
     accepted_exactly_where_nothing_fails();
@@ -103,7 +140,7 @@ pub fn judge(alloc: Global, work: Work, command: Command, bytes: &[u8]) -> Repor
     accepted_certificates_cost_a_number();
     accepted_secrets_have_no_advantage();
     let mut work = work;
-    match read(alloc, &mut work, bytes) {
+    match read_source(alloc, &mut work, source) {
         Ok(accepted) => run_accepted(alloc, work, command, accepted),
         Err(fault) => refused(alloc, work, command, status_of(fault)),
     }

@@ -19,12 +19,16 @@ fn parse_ended(fault: ParseError) -> Status
     }
 }
 
-/// How a refusal of bytes ends a run.
+/// How a refusal of what is read ends a run.
 pub fn status_of(fault: FileError) -> Status
     ensures { result ≡ ended_by fault }
 {
     match fault {
         FileError::Lex(fault) => Status::FileRefused(FileFault::Lex(fault)),
+        FileError::LibraryLex(fault) => Status::FileRefused(FileFault::LibraryLex(fault)),
+        FileError::Library(fault) => Status::FileRefused(FileFault::Library(fault)),
+        FileError::Expand(fault) => Status::FileRefused(FileFault::Expand(fault)),
+        FileError::Tokens { count } => Status::Limit(Which::Tokens { count }),
         FileError::Parse(fault) => parse_ended(fault),
         FileError::Script(token) => Status::FileRefused(FileFault::Script(token)),
         FileError::Types(fault) => Status::FileRefused(FileFault::Types(fault)),

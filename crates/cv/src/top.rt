@@ -10,7 +10,7 @@ ghost use Rattle.cv.specs.Games.{HasCloseGames};
 ghost use Rattle.cv.specs.Calls.{HasBoundedCalls};
 ghost use Rattle.cv.specs.Steps.{HasCloseSteps};
 ghost use Rattle.cv.specs.Strategy.{EndsWell, IsGood, IsSound};
-ghost use Rattle.cv.specs.Words.{AsksOnly, SaysOfWords, asked_by, bytes_asked, command_of as command_by, file_asked, text_asked as text_by};
+ghost use Rattle.cv.specs.Words.{AsksOnly, SaysOfWords, asked_by, command_of as command_by, files_asked, source_asked, text_asked as text_by};
 
 use crate::asked::{command_of, source, text_asked};
 use crate::decide::judge;
@@ -34,24 +34,24 @@ fn answer<F: Shelf>(alloc: Global, request: Request<'_>, shelf: &mut F) -> Repor
     ensures command { result.command ≡ command_by (Some (asked_of request.entry)) }
     ensures live { IsLive result }
     ensures never { (result.status ≢ Status.Words) × (result.status ≢ Status.Write) }
-    ensures asked { AsksOnly (file_asked (Some (asked_of request.entry)))
+    ensures asked { AsksOnly (files_asked (Some (asked_of request.entry)))
         (F.asked shelf.old) (F.asked shelf.new) }
-    ensures answers { Answers (bytes_asked (F.told shelf.old) (Some (asked_of request.entry))) result }
+    ensures answers { Answers (source_asked (F.told shelf.old) (Some (asked_of request.entry))) result }
     ensures cause { ComesFrom (outside_of (F.told shelf.old) (Some (asked_of request.entry))
         (F.faults shelf.old) (F.faults shelf.new)) result result.status }
     ensures complete { NoFault (F.faults shelf.old) (F.faults shelf.new)
-        → IfSome (bytes_asked (F.told shelf.old) (Some (asked_of request.entry)))
-        (λ bytes. IsComplete (command_by (Some (asked_of request.entry))) bytes result.status) }
+        → IfSome (source_asked (F.told shelf.old) (Some (asked_of request.entry)))
+        (λ source. IsComplete (command_by (Some (asked_of request.entry))) source result.status) }
 {
     let work = Work::new(alloc, MOST_NODES);
     let command = command_of(request);
     match source(alloc, request, shelf) {
-        Ok(bytes) => judge(alloc, work, command, &bytes),
+        Ok(source) => judge(alloc, work, command, &source),
         Err(fault) => refused(alloc, work, command, fetch_status(fault)),
     }
 }
 
-/// The report of a run that reads no bytes.
+/// The report of a run that reads no file.
 fn report_without_file(alloc: Global, command: Command, status: Status) -> Report
     ensures status { result.status ≡ status }
     ensures command { result.command ≡ command }
@@ -71,14 +71,14 @@ fn decide<F: Shelf>(alloc: Global, words: &[String], shelf: &mut F) -> Report
     ensures words { SaysOfWords (map string_bytes words.now) result }
     ensures live { IsLive result }
     ensures never { result.status ≢ Status.Write }
-    ensures asked { AsksOnly (file_asked (asked_by words.now))
+    ensures asked { AsksOnly (files_asked (asked_by words.now))
         (F.asked shelf.old) (F.asked shelf.new) }
-    ensures answers { Answers (bytes_asked (F.told shelf.old) (asked_by words.now)) result }
+    ensures answers { Answers (source_asked (F.told shelf.old) (asked_by words.now)) result }
     ensures cause { ComesFrom (outside_of (F.told shelf.old) (asked_by words.now)
         (F.faults shelf.old) (F.faults shelf.new)) result result.status }
     ensures complete { NoFault (F.faults shelf.old) (F.faults shelf.new)
-        → IfSome (bytes_asked (F.told shelf.old) (asked_by words.now))
-        (λ bytes. IsComplete (command_by (asked_by words.now)) bytes result.status) }
+        → IfSome (source_asked (F.told shelf.old) (asked_by words.now))
+        (λ source. IsComplete (command_by (asked_by words.now)) source result.status) }
 {
     plain_forms_are_read();
     let Ok(asked) = command(alloc, words) else {
@@ -113,29 +113,29 @@ pub fn run<F: Shelf, K: Sink>(
     // and call each function at most as often, as its products are worth.
     ensures calls { HasBoundedCalls result.report }
     // The command is the one that the words give, and each plain form of words gives what it says. The file that they name
-    // is asked for alone, at most once.
+    // is asked for, and directly behind it the library that they name, each at most once and nothing else.
     ensures words { SaysOfWords (map string_bytes words.now) result.report }
-    ensures asked { AsksOnly (file_asked (asked_by words.now))
+    ensures asked { AsksOnly (files_asked (asked_by words.now))
         (F.asked shelf.old) (F.asked shelf.new) }
 
-    // Whatever the shelf, there are bytes of which the report's file is the reading: those under that name, where it
-    // tells them, or those of the sample of which a proof is asked. The steps, verdicts and status are those of the
+    // Whatever the shelf, there is a source of which the report's file is the reading: what stands under those names, where
+    // it tells it, or the sample of which a proof is asked. The steps, verdicts and status are those of the
     // proof block, or without one of steps that were found; under `games` none are looked for.
-    ensures answers { Answers (bytes_asked (F.told shelf.old) (asked_by words.now))
+    ensures answers { Answers (source_asked (F.told shelf.old) (asked_by words.now))
         result.report }
     // Each answer has its cause.
     ensures cause { ComesFrom (outside_of (F.told shelf.old) (asked_by words.now)
         (F.faults shelf.old) (F.faults shelf.new)) result.report result.report.status }
-    // What the told bytes call for is said, unless a fault or want of memory comes.
+    // What the told source calls for is said, unless a fault or want of memory comes.
     ensures complete { NoFault (F.faults shelf.old) (F.faults shelf.new)
-        → IfSome (bytes_asked (F.told shelf.old) (asked_by words.now))
-        (λ bytes. IsComplete (command_by (asked_by words.now)) bytes result.report.status) }
+        → IfSome (source_asked (F.told shelf.old) (asked_by words.now))
+        (λ source. IsComplete (command_by (asked_by words.now)) source result.report.status) }
     // A file within the limits is proved each step of whose proof block is accepted, whatever names are drawn, and whose
     // queries are closed by these. Under `games` the run is done.
     ensures good { NoFault (F.faults shelf.old) (F.faults shelf.new)
         → NoFault (K.faults sink.old) (K.faults sink.new)
-        → IfSome (bytes_asked (F.told shelf.old) (asked_by words.now))
-        (λ bytes. IsGood bytes → EndsWell (command_by (asked_by words.now)) result.status) }
+        → IfSome (source_asked (F.told shelf.old) (asked_by words.now))
+        (λ source. IsGood source → EndsWell (command_by (asked_by words.now)) result.status) }
 
     // What was taken is a front of the report's text, and the run ends by the report's status, or by Write.
     ensures written { IsWritten (K.taken sink.old) (K.taken sink.new) result.status result.report }

@@ -1,6 +1,5 @@
 pub mod Blocks
-pub mod Lengths
 pub mod Places
 pub mod Readings
-pub mod Tokens
+pub mod Stages
 pub mod Weights

@@ -1,5 +1,5 @@
 -- The terms of a file have no more syntax nodes than the file weighs.
-use Rattle.std.proofs.Common.{◌≡◌, ℕ, ◌+◌, ◌*◌, ◌<◌, ◌≤◌, min, List, [], ◌∷◌, ◌++◌, flat_map, Option, arith, Ok}
+use Rattle.std.proofs.Common.{◌≡◌, ℕ, ◌+◌, ◌*◌, ◌<◌, ◌≤◌, min, List, [], ◌∷◌, flat_map, Option, arith, Ok}
 use Rattle.cv_parse_notation.specs.declared.sign.Sign.{Sign}
 use Rattle.cv_syntax_trees.specs.Declarations.{Declaration, Named, Equation, Equiv, Query}
 use Rattle.cv_syntax_trees.specs.Tree.{Tree, Empty, Node, first, second, size}
@@ -8,7 +8,7 @@ use Rattle.cv_parse.specs.Weights.{declared_weight, tree_weight}
 use Rattle.cv_parse.proofs.Exactness.{said_is_saying}
 use Rattle.cv_parse_declarations.specs.signature.Declares.{tree_in}
 use Rattle.cv_syntax_trees.specs.declared.sites.sort.Sort.{Sort}
-use Rattle.cv_scope_rules.specs.typing.Parts.{Part, body_parts, declaration_parts, equivalence_parts, file_parts, game_part, more_results, results, side_arrays}
+use Rattle.cv_scope_rules.specs.typing.Parts.{body_parts, declaration_parts, equivalence_parts, file_parts, game_part, more_results, results, side_arrays}
 use Rattle.cv_scope_rules.specs.typing.Refusals.{parts_size}
 use Rattle.cv_scope_rules.specs.typing.Signature.{Arrays}
 use Rattle.cv_typing.proofs.Bodies.{size_append}

@@ -1,7 +1,9 @@
 -- Files: what they hold, and which bytes are one.
 use Rattle.std.specs.Prelude.{◌≡◌, ℕ, ◌+◌, ◌<◌, min, List, length, Option, Some, None, option_map, Result, Ok, Err}
-use Rattle.cv_lex.specs.Lexis.{Token, Lexed, tokens_of}
-use Rattle.cv_lex.specs.declared.LexError.{LexError}
+use Rattle.cv_lex.specs.Lexis.{Token}
+use Rattle.cv_library.specs.Givens.{AreGiven, Given, tokens_given}
+use Rattle.cv_library.specs.declared.error.GivenError.{GivenError}
+use Rattle.cv_library.specs.declared.error.GivenError.TheVariants as fault
 use Rattle.cv_parse_tables.specs.terminals.ScriptSigns.{between, script_signs}
 use Rattle.cv_parse_tables.specs.terminals.Signs.{signs_of}
 use Rattle.cv_script.specs.declared.reader.error.ScriptError.{ScriptError}
@@ -28,7 +30,7 @@ use Rattle.cv_meaning.specs.Queries.{queries_in}
 use Rattle.cv_query_form.specs.Rules.{AreAsked}
 use Rattle.cv_query_form.specs.Tests.{first_refused}
 use Rattle.cv_accept.specs.declared.error.FileError.{FileError}
-use Rattle.cv_accept.specs.declared.error.FileError.TheVariants.{Lex, Parse, Script, Types, Scope, Group, Query, Room, OutOfMemory}
+use Rattle.cv_accept.specs.declared.error.FileError.TheVariants.{Lex, LibraryLex, Library, Expand, Tokens, Parse, Script, Types, Scope, Group, Query, Room, OutOfMemory}
 use Rattle.cv_accept.specs.Places.{behind, nodes_before}
 
 -- the most bytes of a file
@@ -78,12 +80,12 @@ content_of ts p block = record {
   script = option_map items block;
 }
 
--- These bytes are a file that holds this, in a pool with such a limit: with a proof block that is a script, if it has one, typed,
+-- What is given is a file that holds this, in a pool with such a limit: with a proof block that is a script, if it has one, typed,
 -- in scope, with equivalences that are accepted and queries that may be asked.
-pub record IsFile (limit : ℕ) (bytes : List ℕ) (f : Content) : Type 0 where
+pub record IsFile (limit : ℕ) (given : Given) (f : Content) : Type 0 where
   pub tokens : List Token
   pub said : Parsed
-  pub lexed : Lexed 0 bytes (Ok tokens)
+  pub lexed : AreGiven given tokens
   pub says : Says limit (signs_of tokens).signs said
   pub script : Option Tree
   pub block : block_of tokens said ≡ Ok script
@@ -94,17 +96,17 @@ pub record IsFile (limit : ℕ) (bytes : List ℕ) (f : Content) : Type 0 where
   pub content : f ≡ content_of tokens said script
 
 -- The proof block of a file has steps for whose nodes a pool with all nodes of the file has no room.
-pub record IsFull (limit : ℕ) (bytes : List ℕ) (need : ℕ) : Type 0 where
+pub record IsFull (limit : ℕ) (given : Given) (need : ℕ) : Type 0 where
   pub tokens : List Token
   pub said : Parsed
-  pub lexed : tokens_of bytes ≡ Ok tokens
+  pub lexed : tokens_given given ≡ Ok tokens
   pub says : Says limit (signs_of tokens).signs said
   pub script : Tree
   pub block : block_of tokens said ≡ Ok (Some script)
   pub asked : need ≡ nodes_of script
   pub over : limit < file_nodes said.declarations said.game + need
 
--- the same, computed, with what bytes are refused for
+-- the same, computed, with what it is refused for
 
 -- the first fault of the scope of a game, by its place in the file
 abbrev pub scope_fault : Parsed → Option (ℕ × ScopeRules)
@@ -151,16 +153,25 @@ abbrev pub of_parsed : List Token → Result Parsed ParseError → Result Conten
 of_parsed ts (Ok p) = of_script ts p (block_of ts p)
 of_parsed ts (Err e) = Err (Parse e)
 
-abbrev pub of_tokens : ℕ → Result (List Token) LexError → Result Content FileError
-of_tokens limit (Ok ts) = of_parsed ts (parsed limit (signs_of ts).signs)
-of_tokens limit (Err e) = Err (Lex e)
+-- why a file is refused that has no tokens
+abbrev pub of_given : GivenError → FileError
+of_given (fault.Lex e) = Lex e
+of_given (fault.LibraryLex e) = LibraryLex e
+of_given (fault.Library e) = Library e
+of_given (fault.Expand e) = Expand e
+of_given (fault.Tokens count) = Tokens count
+of_given fault.OutOfMemory = OutOfMemory
 
--- Lexis first, then what the tokens say, the proof block, types, scope, equivalences and queries.
-unfoldable pub read_of : (limit : ℕ) → List ℕ → Result Content FileError
-read_of limit bytes = of_tokens limit (tokens_of bytes)
+abbrev pub of_tokens : ℕ → Result (List Token) GivenError → Result Content FileError
+of_tokens limit (Ok ts) = of_parsed ts (parsed limit (signs_of ts).signs)
+of_tokens limit (Err e) = Err (of_given e)
+
+-- Its tokens first, then what these say, the proof block, types, scope, equivalences and queries.
+unfoldable pub read_of : (limit : ℕ) → Given → Result Content FileError
+read_of limit given = of_tokens limit (tokens_given given)
 
 -- Memory may run out anywhere, and a pool may have no room for a proof block; every other error is the one that is meant.
-abbrev pub Refuses : (limit : ℕ) → List ℕ → FileError → Type 0
-Refuses limit bytes OutOfMemory = Unit {0}
-Refuses limit bytes (Room need) = IsFull limit bytes need
-Refuses limit bytes e = read_of limit bytes ≡ Err e
+abbrev pub Refuses : (limit : ℕ) → Given → FileError → Type 0
+Refuses limit given OutOfMemory = Unit {0}
+Refuses limit given (Room need) = IsFull limit given need
+Refuses limit given e = read_of limit given ≡ Err e

@@ -4,9 +4,6 @@ use Rattle.std.specs.declared.vec.Vec.{Vec}
 use Rattle.std.specs.declared.alloc.Global.{Global}
 use Rattle.cv_pool.specs.KindTree.{KindTree}
 use Rattle.cv_syntax_trees.specs.Tree.{Tree}
-use Rattle.cv_lex.specs.Lexis.{Token}
-use Rattle.cv_lex.specs.declared.LexError.{LexError}
-use Rattle.cv_lex.specs.declared.LexError.TheVariants as lex
 use Rattle.cv_syntax.specs.declared.work.BuildError.TheVariants as build
 use Rattle.cv_script.specs.declared.reader.error.ScriptError.{ScriptError}
 use Rattle.cv_script.specs.declared.reader.error.ScriptError.TheVariants as script
@@ -26,11 +23,7 @@ use Rattle.cv_query_form.specs.declared.fault.QueryFault.TheVariants as query
 use Rattle.cv_accept.specs.Accepted.{of_block}
 use Rattle.cv_accept.specs.Works.{script_in}
 use Rattle.cv_accept.specs.declared.error.FileError.{FileError}
-use Rattle.cv_accept.specs.declared.error.FileError.TheVariants.{Lex, Parse, Script, Types, Scope, Group, Query, Room, OutOfMemory}
-
-abbrev pub of_lex : LexError → FileError
-of_lex lex.OutOfMemory = OutOfMemory
-of_lex e = Lex e
+use Rattle.cv_accept.specs.declared.error.FileError.TheVariants.{Parse, Script, Types, Scope, Group, Query, Room, OutOfMemory}
 
 abbrev pub of_type : TypeFault → FileError
 of_type type.OutOfMemory = OutOfMemory

@@ -2,6 +2,7 @@
 use Rattle.std.specs.Prelude.{◌≡◌, ℕ, ◌+◌, ◌<◌, ◌≤◌, All, List, length, Option, Some, None, option_map, Result, Ok, Err}
 use Rattle.std.specs.declared.vec.Vec.{Vec}
 use Rattle.std.specs.declared.alloc.Global.{Global}
+use Rattle.cv_library.specs.Givens.{Given}
 use Rattle.cv_pool.specs.declared.node.NodeId.{NodeId}
 use Rattle.cv_pool.specs.KindTree.{KindTree}
 use Rattle.cv_syntax.specs.declared.decls.Decl.{Decl}
@@ -39,10 +40,10 @@ content_in names own trees list root script = record {
 abbrev pub content_at : Work → NodeId → Option (Vec Step Global) → Content
 content_at w root script = content_in w.names w.decls.own w.pool.trees w.decls.list root script
 
--- what was read is what the bytes hold, and an error is the one that they are refused for
-abbrev pub Reads : (limit : ℕ) → List ℕ → Work → Result Accepted FileError → Type 0
-Reads limit bytes w (Ok f) = read_of limit bytes ≡ Ok (content_at w f.file.game.root f.script)
-Reads limit bytes w (Err e) = Refuses limit bytes e
+-- what was read is what is given, and an error is the one that it is refused for
+abbrev pub Reads : (limit : ℕ) → Given → Work → Result Accepted FileError → Type 0
+Reads limit given w (Ok f) = read_of limit given ≡ Ok (content_at w f.file.game.root f.script)
+Reads limit given w (Err e) = Refuses limit given e
 
 -- how many nodes the steps of a proof block take
 abbrev pub block_nodes : Option (List Tree) → ℕ

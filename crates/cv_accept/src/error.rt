@@ -1,5 +1,6 @@
 use cv_group::{EquivFault, GroupFault};
 use cv_lex::LexError;
+use cv_library::{ExpandError, GivenError, LibraryError};
 use cv_parse::ParseError;
 use cv_query_form::QueryFault;
 use cv_scope_rules::ScopeFault;
@@ -8,12 +9,20 @@ use cv_script::reader::ScriptError;
 use cv_syntax::BuildError;
 use std::alloc::AllocError;
 
-/// Why bytes aren't taken as a file.
+/// Why what is given isn't taken as a file.
 #[derive(Clone, Copy, Debug, PartialEq, Eq)]
 pub enum FileError {
-    /// They have no tokens.
+    /// The file has no tokens.
     Lex(LexError),
-    /// Their tokens are no file.
+    /// The library has no tokens.
+    LibraryLex(LexError),
+    /// The tokens of the library are none.
+    Library(LibraryError),
+    /// A use in the file can't be expanded.
+    Expand(ExpandError),
+    /// The expanded file has so many tokens, the end token left out, and these are too many.
+    Tokens { count: u64 },
+    /// The tokens are no file.
     Parse(ParseError),
     /// They are a file whose proof block is no script: none goes through this token.
     Script(u32),
@@ -41,16 +50,20 @@ impl From<AllocError> for FileError {
     }
 }
 
-impl From<LexError> for FileError {
-    ghost use Rattle.cv_accept.specs.Faults.{of_lex};
+impl From<GivenError> for FileError {
+    ghost use Rattle.cv_accept.specs.Accepted.{of_given};
     ghost use Rattle.std.specs.Prelude.{◌≡◌};
 
-    ghost from_gives = { λ fault e. e ≡ of_lex fault };
+    ghost from_gives = { λ fault e. e ≡ of_given fault };
 
-    fn from(fault: LexError) -> FileError {
+    fn from(fault: GivenError) -> FileError {
         match fault {
-            LexError::OutOfMemory => FileError::OutOfMemory,
-            other => FileError::Lex(other),
+            GivenError::Lex(fault) => FileError::Lex(fault),
+            GivenError::LibraryLex(fault) => FileError::LibraryLex(fault),
+            GivenError::Library(fault) => FileError::Library(fault),
+            GivenError::Expand(fault) => FileError::Expand(fault),
+            GivenError::Tokens { count } => FileError::Tokens { count },
+            GivenError::OutOfMemory => FileError::OutOfMemory,
         }
     }
 }

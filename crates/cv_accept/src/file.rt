@@ -1,4 +1,5 @@
-ghost use Rattle.std.specs.Prelude.{◌≡◌, ◌+◌, ◌<◌, ◌≤◌, ◌^◌, [], ℕ, Some, All, length, IfOk, IfSome, OnOk, OnErr};
+ghost use Rattle.std.specs.Prelude.{◌≡◌, ◌+◌, ◌<◌, ◌≤◌, ◌^◌, [], ℕ, Some, All, length, option_map, IfOk, IfSome, OnOk, OnErr};
+ghost use Rattle.cv_library.specs.Givens.{given_by};
 ghost use Rattle.cv_pool.specs.PoolView.{Grows};
 ghost use Rattle.cv_parse.specs.Declaring.{IsBelow};
 ghost use Rattle.cv_syntax_trees.specs.Tree.{size};
@@ -11,7 +12,8 @@ use crate::error::FileError;
 use crate::scoping::check_game;
 use cv_directory::Directory;
 use cv_group::check_all;
-use cv_lex::{Tokens, tokens};
+use cv_lex::Tokens;
+use cv_library::tokens_given;
 use cv_parse::file;
 use cv_query_form::check as check_queries;
 use cv_script::Step;
@@ -78,15 +80,21 @@ fn read_block(
     }
 }
 
-/// Fills an empty work with what bytes hold, where they are a file.
-#[tactic(auto, using(crate::proofs::Lengths::lengths))]
-fn fill(alloc: Global, work: &mut Work, bytes: &[u8]) -> Result<Accepted, FileError>
+/// Fills an empty work with what is given, where it is a file.
+fn fill(
+    alloc: Global,
+    work: &mut Work,
+    bytes: &[u8],
+    library: Option<&[u8]>,
+) -> Result<Accepted, FileError>
     requires names { work.old.names ≡ [] }
     requires decls { work.old.decls.list ≡ [] }
     requires trees { work.old.pool.trees ≡ [] }
     requires limit { work.old.pool.limit < 4294967295 }
     requires few { length bytes.now ≤ 1048576 }
-    ensures reads { Reads work.old.pool.limit bytes.now work.new result }
+    requires few_more { IfSome library (λ more. length more.now ≤ 1048576) }
+    ensures reads { Reads work.old.pool.limit (given_by bytes.now
+        (option_map (λ more. more.now) library.entry)) work.new result }
     ensures live { IfOk result (λ f. f.file.game.root.0 < length work.new.pool.trees) }
     ensures fits { IfOk result (λ f. size (tree_at work.new.pool.trees (Some f.file.game.root))
         ≤ 50000) }
@@ -97,7 +105,8 @@ fn fill(alloc: Global, work: &mut Work, bytes: &[u8]) -> Result<Accepted, FileEr
     ensures limit { work.new.pool.limit ≡ work.old.pool.limit }
     ensures below { OnOk result (All (IsBelow (length work.new.pool.trees)) work.new.decls.list) }
 {
-    let tokens = tokens(alloc, bytes)?;
+    let tokens = tokens_given(alloc, bytes, library)?;
+    let _tokens = tokens.len();
     let file = file(alloc, work, &tokens)?;
     let script = read_block(alloc, work, &tokens, file.script)?;
     let directory = Directory::of(alloc, &work.pool, &work.decls, file.game.root)?;
@@ -108,16 +117,23 @@ fn fill(alloc: Global, work: &mut Work, bytes: &[u8]) -> Result<Accepted, FileEr
     Ok(Accepted { file, script })
 }
 
-/// Reads a file into an empty work, and sets how many names are its own. Where no file is read the work is
-/// empty again and has as many own names as before; the pool may have more spare room. A file has at most a
-/// mebibyte.
-pub fn read(alloc: Global, work: &mut Work, bytes: &[u8]) -> Result<Accepted, FileError>
+/// Reads a file into an empty work, expanded by a library where one is given, and sets how many names are its own. Where
+/// no file is read the work is empty again and has as many own names as before; the pool may have more spare room. A
+/// file has at most a mebibyte, and so has a library.
+pub fn read(
+    alloc: Global,
+    work: &mut Work,
+    bytes: &[u8],
+    library: Option<&[u8]>,
+) -> Result<Accepted, FileError>
     requires names { work.old.names ≡ [] }
     requires decls { work.old.decls.list ≡ [] }
     requires trees { work.old.pool.trees ≡ [] }
     requires limit { work.old.pool.limit < 4294967295 }
     requires few { length bytes.now ≤ 1048576 }
-    ensures reads { Reads work.old.pool.limit bytes.now work.new result }
+    requires few_more { IfSome library (λ more. length more.now ≤ 1048576) }
+    ensures reads { Reads work.old.pool.limit (given_by bytes.now
+        (option_map (λ more. more.now) library.entry)) work.new result }
     ensures live { IfOk result (λ f. f.file.game.root.0 < length work.new.pool.trees) }
     ensures fits { IfOk result (λ f. size (tree_at work.new.pool.trees (Some f.file.game.root))
         ≤ 50000) }
@@ -134,7 +150,7 @@ pub fn read(alloc: Global, work: &mut Work, bytes: &[u8]) -> Result<Accepted, Fi
 {
     let before = work.pool.mark();
     let own = work.decls.own();
-    match fill(alloc, work, bytes) {
+    match fill(alloc, work, bytes, library) {
         Ok(file) => Ok(file),
         Err(fault) => {
             empty_again(work, before, own);

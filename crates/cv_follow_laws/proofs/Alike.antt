@@ -1,6 +1,7 @@
--- Two reports on the same bytes: what they say along their trails, and of the queries.
+-- Two reports on the same source: what they say along their trails, and of the queries.
 use Rattle.std.proofs.Common.{◌≡◌, ℕ, ◌≤◌, Bool, true, false, List, [], ◌∷◌, ◌++◌, append-nil, drop, length, map, take, Option, Some, None, refl, ap, ap₂, sym, ◌∙◌, subst, arith}
 use Rattle.std.proofs.lemmas.List.{length-map, take-append-drop, take-map, take_all}
+use Rattle.cv_library.specs.Givens.{Given}
 use Rattle.cv_pool.specs.names.Texts.{NoRepeat}
 use Rattle.cv_syntax.specs.declared.work.File.{File}
 use Rattle.cv_syntax_trees.specs.Tree.{Tree}
@@ -85,12 +86,12 @@ module _ (c : Content) where
 
 -- the two reports hold one file
 
-module _ (bytes : List ℕ) (r q : Report) (f g : File) (w : IsReportOf bytes r f) (v : IsReportOf bytes q g) where
+module _ (source : Given) (r q : Report) (f g : File) (w : IsReportOf source r f) (v : IsReportOf source q g) where
   pub file_is : file_in r f w.names ≡ file_in q g v.names
-  file_is = one_file most_pool bytes (file_in r f w.names) (file_in q g v.names) w.file v.file
+  file_is = one_file most_pool source (file_in r f w.names) (file_in q g v.names) w.file v.file
 
   pub apart : NoRepeat (file_in r f w.names).names
-  apart = stand_once most_pool bytes (file_in r f w.names) w.file
+  apart = stand_once most_pool source (file_in r f w.names) w.file
 
   pub proceeds : Proceeds q (file_in r f w.names) (file_in r f w.names).script
   proceeds = subst (λ (c : Content). Proceeds q c c.script) (sym file_is) v.follows

@@ -1,5 +1,6 @@
--- No text stands twice among the names of a file, and bytes are one file at most.
+-- No text stands twice among the names of a file, and a source is one file at most.
 use Rattle.std.proofs.Common.{◌≡◌, ℕ, min, List, Option, Some, None, sym, subst}
+use Rattle.cv_library.specs.Givens.{Given}
 use Rattle.cv_lex.specs.Lexis.{Token}
 use Rattle.cv_pool.specs.names.Texts.{NoRepeat}
 use Rattle.cv_parse_tables.specs.terminals.ScriptSigns.{between}
@@ -12,11 +13,11 @@ with_block : (ts : List Token) (names : List (List ℕ)) (block : Option (ℕ ×
 with_block ts names None u = u
 with_block ts names (Some b) u = (grown names no_counts (between (min b.0 b.1) b.1 ts)).apart u
 
-pub stand_once : (limit : ℕ) (bytes : List ℕ) (f : Content) → IsFile limit bytes f → NoRepeat f.names
-stand_once limit bytes f w = subst (λ (c : Content). NoRepeat c.names) (sym w.content) (with_block w.tokens (signs_of w.tokens).names w.said.script (names_apart w.tokens))
+pub stand_once : (limit : ℕ) (source : Given) (f : Content) → IsFile limit source f → NoRepeat f.names
+stand_once limit source f w = subst (λ (c : Content). NoRepeat c.names) (sym w.content) (with_block w.tokens (signs_of w.tokens).names w.said.script (names_apart w.tokens))
 
-pub one_file : (limit : ℕ) (bytes : List ℕ) (f g : Content) → IsFile limit bytes f → IsFile limit bytes g → f ≡ g
-one_file limit bytes f g w v =
-    let read = file_is_read limit bytes f w in
-    let again = file_is_read limit bytes g v in
+pub one_file : (limit : ℕ) (source : Given) (f g : Content) → IsFile limit source f → IsFile limit source g → f ≡ g
+one_file limit source f g w v =
+    let read = file_is_read limit source f w in
+    let again = file_is_read limit source g v in
     cc (read, again)

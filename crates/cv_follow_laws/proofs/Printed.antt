@@ -2,6 +2,7 @@
 use Rattle.std.proofs.Common.{◌≡◌, ℕ, ◌+◌, List, [], ◌∷◌, ◌++◌, codes, decimal, if◌then◌else◌, length, map, Option, Some, None, is_some, refl, ap, ap₂, sym, ◌∙◌, subst}
 use Rattle.std.specs.Prelude.{option_map}
 use Rattle.std.specs.List.{flat_map}
+use Rattle.cv_library.specs.Givens.{Given}
 use Rattle.cv_pool.specs.KindTree.{KindTree}
 use Rattle.cv_syntax.specs.declared.work.File.{File}
 use Rattle.cv_syntax.specs.declared.work.Game.{Game}
@@ -84,7 +85,7 @@ parameters_are : (trees : List KindTree) (ds : List Decl) → parameters_in ds �
 parameters_are trees [] = refl
 parameters_are trees (d ∷ ds) = ap₂ ◌++◌ (parameter_is trees d) (parameters_are trees ds)
 
-module _ (bytes : List ℕ) (r q : Report) (f g : File) (w : IsReportOf bytes r f) (v : IsReportOf bytes q g) (front : AreFront r q) where
+module _ (source : Given) (r q : Report) (f g : File) (w : IsReportOf source r f) (v : IsReportOf source q g) (front : AreFront r q) where
   body_by : (names : List (List ℕ)) (order : List ℕ) (trees others : List KindTree) (first other : Tree) (es fs : List Entry) (vs us : List Verdict) → first ≡ other → map (entry_in trees) es ≡ map (entry_in others) fs → vs ≡ us
       → codes "game 1\n" ++ game_text names first ++ trail_text names order trees 1 2 es ++ verdicts_text names 1 vs ≡ codes "game 1\n" ++ game_text names other ++ trail_text names order others 1 2 fs ++ verdicts_text names 1 us
   body_by names order trees others first other es fs vs us a b c =
@@ -93,13 +94,13 @@ module _ (bytes : List ℕ) (r q : Report) (f g : File) (w : IsReportOf bytes r 
   order_is : parameters_in r.work.decls.list ≡ parameters_in q.work.decls.list
   order_is =
       parameters_are r.work.pool.trees r.work.decls.list
-      ∙ (ap (λ (c : Content). flat_map parameter_of c.declarations) (file_is bytes r q f g w v)
+      ∙ (ap (λ (c : Content). flat_map parameter_of c.declarations) (file_is source r q f g w v)
       ∙ sym (parameters_are q.work.pool.trees q.work.decls.list))
 
   bodies_are : length r.trail.items ≡ length q.trail.items → body_text r (Some f) ≡ body_text q (Some g)
   bodies_are l =
-      body_by r.work.names (parameters_in r.work.decls.list) r.work.pool.trees q.work.pool.trees (tree_at r.work.pool.trees (Some f.game.root)) (tree_at q.work.pool.trees (Some g.game.root)) r.trail.items q.trail.items r.verdicts.items q.verdicts.items (ap (λ (c : Content). c.game) (file_is bytes r q f g w v)) (trails_are bytes r q f g w v front l) (verdicts_are bytes r q f g w v front l)
-      ∙ ap₂ (λ (ns : List (List ℕ)) (ps : List ℕ). codes "game 1\n" ++ game_text ns (tree_at q.work.pool.trees (Some g.game.root)) ++ trail_text ns ps q.work.pool.trees 1 2 q.trail.items ++ verdicts_text ns 1 q.verdicts.items) (names_are bytes r q f g w v front l) order_is
+      body_by r.work.names (parameters_in r.work.decls.list) r.work.pool.trees q.work.pool.trees (tree_at r.work.pool.trees (Some f.game.root)) (tree_at q.work.pool.trees (Some g.game.root)) r.trail.items q.trail.items r.verdicts.items q.verdicts.items (ap (λ (c : Content). c.game) (file_is source r q f g w v)) (trails_are source r q f g w v front l) (verdicts_are source r q f g w v front l)
+      ∙ ap₂ (λ (ns : List (List ℕ)) (ps : List ℕ). codes "game 1\n" ++ game_text ns (tree_at q.work.pool.trees (Some g.game.root)) ++ trail_text ns ps q.work.pool.trees 1 2 q.trail.items ++ verdicts_text ns 1 q.verdicts.items) (names_are source r q f g w v front l) order_is
 
   pub body_is : length r.trail.items ≡ length q.trail.items → body_text r r.file ≡ body_text q q.file
   body_is l = ap (body_text r) w.there ∙ (bodies_are l ∙ sym (ap (body_text q) v.there))

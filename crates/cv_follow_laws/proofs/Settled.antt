@@ -1,8 +1,9 @@
--- Two runs on the same bytes that are settled go equally far, and end alike: of a step by which one of them ends nothing else is said in
+-- Two runs on the same source that are settled go equally far, and end alike: of a step by which one of them ends nothing else is said in
 -- the game where it stands.
 use Rattle.std.proofs.Common.{◌≡◌, ℕ, suc, ◌+◌, ◌<◌, inl, inr, false, List, [], ◌∷◌, ◌++◌, length, map, take, Option, Some, None, refl, ap, ap₂, sym, ◌∙◌, subst, arith}
 use Rattle.std.proofs.lemmas.Bool.{cases_order}
 use Rattle.std.proofs.lemmas.List.{append_assoc, append_cancel_left, length-append, length-map, map-append, take_at}
+use Rattle.cv_library.specs.Givens.{Given}
 use Rattle.cv_pool.specs.names.Texts.{NoRepeat}
 use Rattle.cv_syntax.specs.declared.work.File.{File}
 use Rattle.cv_syntax_trees.specs.Tree.{Tree}
@@ -153,10 +154,10 @@ plain_found (Some script) n f = (let e = sym n ∙ f in cc)
 none_asked : (r q : Report) → IsPlain (block_of r) → AreFront r q
 none_asked r q n = λ f. absurd (plain_found (block_of r) n f)
 
-pub one_text : (bytes : List ℕ) (r q : Report) (f g : File) → IsReportOf bytes r f → IsReportOf bytes q g → IsPlain (block_of r) → IsSettled r.status → IsSettled q.status → text_of r ≡ text_of q
-one_text bytes r q f g w v s h k =
+pub one_text : (source : Given) (r q : Report) (f g : File) → IsReportOf source r f → IsReportOf source q g → IsPlain (block_of r) → IsSettled r.status → IsSettled q.status → text_of r ≡ text_of q
+one_text source r q f g w v s h k =
     let c : Content = file_in r f w.names in
-    let goes = proceeds bytes r q f g w v in
-    let draws = drawn bytes r q f g w v in
-    ap₂ ◌++◌ (body_is bytes r q f g w v (none_asked r q s) (lengths_by c (apart bytes r q f g w v) r q c.script s w.follows goes w.drawn draws h k))
-    (ap end_text (ends_by c (apart bytes r q f g w v) r q c.script s w.follows goes w.drawn draws h k))
+    let goes = proceeds source r q f g w v in
+    let draws = drawn source r q f g w v in
+    ap₂ ◌++◌ (body_is source r q f g w v (none_asked r q s) (lengths_by c (apart source r q f g w v) r q c.script s w.follows goes w.drawn draws h k))
+    (ap end_text (ends_by c (apart source r q f g w v) r q c.script s w.follows goes w.drawn draws h k))

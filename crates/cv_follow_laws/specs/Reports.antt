@@ -1,6 +1,7 @@
--- What the clauses of a run say of its report on a proof, where it has a file: the bytes that the file is the reading of, the steps and the
+-- What the clauses of a run say of its report on a proof, where it has a file: the source that the file is the reading of, the steps and the
 -- verdicts, and the names that were drawn. Under `games` a run ends otherwise. This profile's own.
 use Rattle.std.specs.Prelude.{◌≡◌, ◌≢◌, ℕ, ◌+◌, true, false, List, ◌++◌, length, map, take, Option, Some, None}
+use Rattle.cv_library.specs.Givens.{Given}
 use Rattle.cv_syntax.specs.declared.work.File.{File}
 use Rattle.cv_syntax_trees.specs.Tree.{Tree}
 use Rattle.cv_meaning.specs.Queries.{queries_in}
@@ -52,11 +53,11 @@ abbrev pub Proceeds : Report → Content → Option (List Tree) → Type 0
 Proceeds r c None = TakesSteps r c
 Proceeds r c (Some script) = FollowsScript r c script
 
--- The report has this file, of which these bytes are the reading with so many of its names, and goes on as a run does.
-pub record IsReportOf (bytes : List ℕ) (r : Report) (f : File) : Type 0 where
+-- The report has this file, which is the reading of this source with so many of its names, and goes on as a run does.
+pub record IsReportOf (source : Given) (r : Report) (f : File) : Type 0 where
   pub there : r.file ≡ Some f
   pub names : ℕ
-  pub file : IsFile most_pool bytes (file_in r f names)
+  pub file : IsFile most_pool source (file_in r f names)
   pub drawn : HasDrawn r (file_in r f names)
   pub follows : Proceeds r (file_in r f names) (file_in r f names).script
 

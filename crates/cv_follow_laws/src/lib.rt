@@ -1,10 +1,11 @@
-// From the bytes of a file and the number of its accepted steps, what a report prints is one.
+// From a source, the bytes of a file and of its library, and the number of its accepted steps, what a report prints is one.
 #![tactic(auto)]
 
 ghost use Rattle.std.specs.Prelude.{◌≡◌, ◌≤◌, ℕ, Bool, List, length, map, take};
 ghost use Rattle.cv_pool.specs.names.Texts.{NoRepeat};
 ghost use Rattle.cv_syntax.specs.declared.work.File.{File};
 ghost use Rattle.cv_syntax_trees.specs.Tree.{Tree};
+ghost use Rattle.cv_library.specs.Givens.{Given};
 ghost use Rattle.cv_accept.specs.Accepted.{Content, IsFile};
 ghost use Rattle.cv_kernel.specs.Drawings.{DrawsAlong, told};
 ghost use Rattle.cv_kernel.specs.Proofs.{IsProof, Transition};
@@ -12,20 +13,20 @@ ghost use Rattle.cv_report.specs.declared.report.Report.{Report};
 ghost use Rattle.cv_report.specs.Text.{body_text, text_of};
 ghost use Rattle.cv_follow_laws.specs.Reports.{AreFront, IsPlain, IsReportOf, IsSettled, block_of, file_in, said_along};
 
-/// No text stands twice among the names of a file, those of its proof block included, and bytes are one file at most.
+/// No text stands twice among the names of a file, those of its proof block included, and a source is one file at most.
 pub fn names_of_files_stand_once()
-    ensures names { (limit : ℕ) (bytes : List ℕ) (f : Content) → IsFile limit bytes f
+    ensures names { (limit : ℕ) (source : Given) (f : Content) → IsFile limit source f
         → NoRepeat f.names }
-    ensures one { (limit : ℕ) (bytes : List ℕ) (f g : Content) → IsFile limit bytes f
-        → IsFile limit bytes g → f ≡ g }
+    ensures one { (limit : ℕ) (source : Given) (f g : Content) → IsFile limit source f
+        → IsFile limit source g → f ≡ g }
 {}
 
 /// So a file and steps that are accepted one after another, from its game on, fix the games that these lead to, the
 /// costs and the contexts, and the table of names behind them, where the names are drawn behind those of the file.
 pub fn a_file_and_its_steps_fix_the_games()
-    ensures { (found : Bool) (limit : ℕ) (bytes : List ℕ) (f : Content) (known : ℕ → Bool)
+    ensures { (found : Bool) (limit : ℕ) (source : Given) (f : Content) (known : ℕ → Bool)
         (ts us : List Transition) (g h : Tree) (after other : List (List ℕ))
-        → IsFile limit bytes f
+        → IsFile limit source f
         → IsProof f.declarations known f.game ts g → IsProof f.declarations known f.game us h
         → map (λ t. t.step) ts ≡ map (λ t. t.step) us
         → DrawsAlong found f.declarations known f.own f.game (map told ts) f.names after
@@ -33,34 +34,34 @@ pub fn a_file_and_its_steps_fix_the_games()
         → (ts ≡ us) × (after ≡ other) }
 {}
 
-/// Two reports on the same bytes with equally many steps have the same names, say the same along their trails and of
+/// Two reports on the same source with equally many steps have the same names, say the same along their trails and of
 /// the queries, and have one text but for the last line. Where one has fewer steps, its trail is the front of the
 /// other's. Without a proof block, or where it has the word `simplify`, it is so of reports that found the same steps. How
-/// many of the names are the file's is told by the bytes.
+/// many of the names are the file's is told by the source.
 pub fn reports_of_a_file_say_the_same()
-    ensures trail { (bytes : List ℕ) (r q : Report) (f g : File) → IsReportOf bytes r f
-        → IsReportOf bytes q g → AreFront r q → length r.trail.items ≡ length q.trail.items
+    ensures trail { (source : Given) (r q : Report) (f g : File) → IsReportOf source r f
+        → IsReportOf source q g → AreFront r q → length r.trail.items ≡ length q.trail.items
         → said_along r ≡ said_along q }
-    ensures front { (bytes : List ℕ) (r q : Report) (f g : File) → IsReportOf bytes r f
-        → IsReportOf bytes q g → AreFront r q → length r.trail.items ≤ length q.trail.items
+    ensures front { (source : Given) (r q : Report) (f g : File) → IsReportOf source r f
+        → IsReportOf source q g → AreFront r q → length r.trail.items ≤ length q.trail.items
         → said_along r ≡ take (length r.trail.items) (said_along q) }
-    ensures names { (bytes : List ℕ) (r q : Report) (f g : File) → IsReportOf bytes r f
-        → IsReportOf bytes q g → AreFront r q → length r.trail.items ≡ length q.trail.items
+    ensures names { (source : Given) (r q : Report) (f g : File) → IsReportOf source r f
+        → IsReportOf source q g → AreFront r q → length r.trail.items ≡ length q.trail.items
         → r.work.names ≡ q.work.names }
-    ensures verdicts { (bytes : List ℕ) (r q : Report) (f g : File) → IsReportOf bytes r f
-        → IsReportOf bytes q g → AreFront r q → length r.trail.items ≡ length q.trail.items
+    ensures verdicts { (source : Given) (r q : Report) (f g : File) → IsReportOf source r f
+        → IsReportOf source q g → AreFront r q → length r.trail.items ≡ length q.trail.items
         → r.verdicts.items ≡ q.verdicts.items }
-    ensures text { (bytes : List ℕ) (r q : Report) (f g : File) → IsReportOf bytes r f
-        → IsReportOf bytes q g → AreFront r q → length r.trail.items ≡ length q.trail.items
+    ensures text { (source : Given) (r q : Report) (f g : File) → IsReportOf source r f
+        → IsReportOf source q g → AreFront r q → length r.trail.items ≡ length q.trail.items
         → body_text r r.file ≡ body_text q q.file }
-    ensures file { (bytes : List ℕ) (r q : Report) (f g : File) (w : IsReportOf bytes r f)
-        (v : IsReportOf bytes q g) → file_in r f w.names ≡ file_in q g v.names }
+    ensures file { (source : Given) (r q : Report) (f g : File) (w : IsReportOf source r f)
+        (v : IsReportOf source q g) → file_in r f w.names ≡ file_in q g v.names }
 {}
 
-/// So two runs on the same bytes with a proof block without the word print one text, where each ends by the verdicts on its queries, by the
+/// So two runs on the same source with a proof block without the word print one text, where each ends by the verdicts on its queries, by the
 /// end of the block, by a limit of a game, or by a condition of a step other than 9.
 pub fn settled_reports_are_one()
-    ensures { (bytes : List ℕ) (r q : Report) (f g : File) → IsReportOf bytes r f
-        → IsReportOf bytes q g → IsPlain (block_of r) → IsSettled r.status → IsSettled q.status
+    ensures { (source : Given) (r q : Report) (f g : File) → IsReportOf source r f
+        → IsReportOf source q g → IsPlain (block_of r) → IsSettled r.status → IsSettled q.status
         → text_of r ≡ text_of q }
 {}

@@ -12,6 +12,10 @@ use Rattle.cv_bound.specs.declared.cost.Cost.{Cost}
 use Rattle.cv_context.specs.products.ShapesInCode.{shape_in}
 use Rattle.cv_lex.specs.declared.LexError.{LexError}
 use Rattle.cv_lex.specs.declared.LexError.TheVariants as lex
+use Rattle.cv_library.specs.declared.error.LibraryError.{LibraryError}
+use Rattle.cv_library.specs.declared.error.LibraryError.TheVariants as library
+use Rattle.cv_library.specs.declared.error.ExpandError.{ExpandError}
+use Rattle.cv_library.specs.declared.error.ExpandError.TheVariants as expand
 use Rattle.cv_parse.specs.declared.error.ParseError.{ParseError}
 use Rattle.cv_parse.specs.declared.error.ParseError.TheVariants as parse
 use Rattle.cv_scope_rules.specs.declared.typing.fault.TypeFault.{TypeFault}
@@ -23,14 +27,14 @@ use Rattle.cv_scope_rules.specs.declared.fault.ScopeFault.TheVariants as scope
 use Rattle.cv_report.specs.declared.report.Cause.{Cause}
 use Rattle.cv_report.specs.declared.report.Cause.TheVariants.{Moves, Stuck, StepRefused, NoClose}
 use Rattle.cv_report.specs.declared.report.FileFault.{FileFault}
-use Rattle.cv_report.specs.declared.report.FileFault.TheVariants.{Lex, Parse, Script, Types, Scope, Group, Query}
+use Rattle.cv_report.specs.declared.report.FileFault.TheVariants.{Lex, LibraryLex, Library, Expand, Parse, Script, Types, Scope, Group, Query}
 use Rattle.cv_report.specs.declared.report.Report.{Report}
 use Rattle.cv_report.specs.declared.report.Status.{Status}
 use Rattle.cv_report.specs.declared.report.Status.TheVariants as status
 use Rattle.cv_report.specs.declared.report.Entry.{Entry}
 use Rattle.cv_report.specs.declared.report.Verdict.{Verdict}
 use Rattle.cv_report.specs.declared.report.Verdict.TheVariants.{Proved, NotProved}
-use Rattle.cv_report.specs.declared.report.Which.TheVariants.{File as FileLimit, Nodes, Depth, Steps, Pool}
+use Rattle.cv_report.specs.declared.report.Which.TheVariants.{File as FileLimit, Tokens, Nodes, Depth, Steps, Pool}
 use Rattle.cv_report.specs.contexts.Contexts.{context_text}
 use Rattle.cv_costs.specs.Factors.{parameters_in}
 
@@ -78,6 +82,24 @@ lexis_text (lex.CommentOpen byte) = refused_text (codes "comment at byte ") byte
 lexis_text (lex.NumberWide byte) = refused_text (codes "number at byte ") byte
 lexis_text lex.OutOfMemory = codes "end 6 memory\n"
 
+abbrev pub library_lexis_text : LexError → List ℕ
+library_lexis_text (lex.Char byte) = refused_text (codes "library char at byte ") byte
+library_lexis_text (lex.CommentOpen byte) = refused_text (codes "library comment at byte ") byte
+library_lexis_text (lex.NumberWide byte) = refused_text (codes "library number at byte ") byte
+library_lexis_text lex.OutOfMemory = codes "end 6 memory\n"
+
+abbrev pub library_text : LibraryError → List ℕ
+library_text (library.Syntax token) = refused_text (codes "library syntax at token ") token
+library_text (library.Twice token) = refused_text (codes "library name twice at token ") token
+library_text (library.Inner token) = refused_text (codes "library inner expand at token ") token
+library_text library.OutOfMemory = codes "end 6 memory\n"
+
+abbrev pub expansion_text : ExpandError → List ℕ
+expansion_text (expand.Unknown token) = refused_text (codes "no definition at token ") token
+expansion_text (expand.Count token) = refused_text (codes "expand count at token ") token
+expansion_text (expand.Tokens count) = codes "end 7 limit: tokens\n"
+expansion_text expand.OutOfMemory = codes "end 6 memory\n"
+
 abbrev pub grammar_text : ParseError → List ℕ
 grammar_text (parse.Syntax token) = refused_text (codes "syntax at token ") token
 grammar_text (parse.Nesting token) = refused_text (codes "nesting at token ") token
@@ -115,6 +137,9 @@ query_text k = refused_text (codes "query ") k
 
 abbrev pub fault_text : FileFault → List ℕ
 fault_text (Lex e) = lexis_text e
+fault_text (LibraryLex e) = library_lexis_text e
+fault_text (Library e) = library_text e
+fault_text (Expand e) = expansion_text e
 fault_text (Parse e) = grammar_text e
 fault_text (Script token) = script_text token
 fault_text (Types e) = types_text e
@@ -159,6 +184,7 @@ end_text status.Read = codes "end 4 read\n"
 end_text status.Write = codes "end 5 write\n"
 end_text status.Memory = codes "end 6 memory\n"
 end_text (status.Limit FileLimit) = codes "end 7 limit: file\n"
+end_text (status.Limit (Tokens count)) = codes "end 7 limit: tokens\n"
 end_text (status.Limit (Nodes count)) = codes "end 7 limit: nodes\n"
 end_text (status.Limit (Depth depth)) = codes "end 7 limit: depth\n"
 end_text (status.Limit Steps) = codes "end 7 limit: steps\n"

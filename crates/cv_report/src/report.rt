@@ -5,6 +5,7 @@ use cv_bound::{Cost, Sum};
 use cv_context::products::Shape;
 use cv_group::GroupFault;
 use cv_lex::LexError;
+use cv_library::{ExpandError, LibraryError};
 use cv_parse::ParseError;
 use cv_scope_rules::ScopeFault;
 use cv_scope_rules::typing::TypeFault;
@@ -64,6 +65,12 @@ pub enum Cause {
 pub enum FileFault {
     /// They have no tokens.
     Lex(LexError),
+    /// Those of the library have none.
+    LibraryLex(LexError),
+    /// The tokens of the library are not those of one.
+    Library(LibraryError),
+    /// The uses in the file aren't those of the library's definitions.
+    Expand(ExpandError),
     /// Their tokens are not those of a file, by the grammar or the rules of names.
     Parse(ParseError),
     /// No step begins with this token, which is the first of the file's proof block.
@@ -81,8 +88,10 @@ pub enum FileFault {
 /// What passed its number.
 #[derive(Clone, Copy, Debug, PartialEq, Eq)]
 pub enum Which {
-    /// The bytes of the file.
+    /// The bytes of the file, or of the library.
     File,
+    /// The tokens of the expanded file, which are so many.
+    Tokens { count: u64 },
     /// The syntax nodes of the game, which are so many.
     Nodes { count: u32 },
     /// The syntax nodes on a path of the game.

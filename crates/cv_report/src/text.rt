@@ -1,6 +1,6 @@
 // The text of a report.
 ghost use Rattle.std.specs.Prelude.{◌≡◌, ◌+◌, ◌<◌, ◌^◌, ◌++◌, [], All, length, IfOk, OnOk, IfSome};
-ghost use Rattle.cv_report.specs.Text.{EntryLive, IsLive, body_text as body_of, condition_text, cost_text, end_text, entry_text, fault_text, games_after, games_text as games_of, grammar_text, group_text, lexis_text, next_text, no_close_text, numbered_text, open_text, place_text, query_text, refused_text, said_text, scope_text, script_text, step_refused_text, text_of, trail_text, types_text, verdict_text, verdicts_text};
+ghost use Rattle.cv_report.specs.Text.{EntryLive, IsLive, body_text as body_of, condition_text, cost_text, end_text, entry_text, expansion_text, fault_text, games_after, games_text as games_of, grammar_text, group_text, lexis_text, library_lexis_text, library_text, next_text, no_close_text, numbered_text, open_text, place_text, query_text, refused_text, said_text, scope_text, script_text, step_refused_text, text_of, trail_text, types_text, verdict_text, verdicts_text};
 
 use crate::contexts::push_context;
 use crate::report::{Cause, Entry, FileFault, Report, Status, Verdict, Which};
@@ -8,6 +8,7 @@ use cv_bound::{Cost, listed_text};
 use cv_costs::order_of;
 use cv_group::GroupFault;
 use cv_lex::LexError;
+use cv_library::{ExpandError, LibraryError};
 use cv_parse::ParseError;
 use cv_print::{push_decimal, push_game};
 use cv_scope_rules::ScopeFault;
@@ -168,6 +169,42 @@ fn push_lexis(out: &mut Vec<u8>, fault: LexError) -> Result<(), AllocError>
     }
 }
 
+/// Appends the end line of a library without tokens.
+fn push_library_lexis(out: &mut Vec<u8>, fault: LexError) -> Result<(), AllocError>
+    ensures { OnOk result (out.new.items ≡ out.old.items ++ library_lexis_text fault) }
+{
+    match fault {
+        LexError::Char(byte) => push_refused(out, b"library char at byte ", byte),
+        LexError::CommentOpen(byte) => push_refused(out, b"library comment at byte ", byte),
+        LexError::NumberWide(byte) => push_refused(out, b"library number at byte ", byte),
+        LexError::OutOfMemory => out.extend_from_slice(b"end 6 memory\n"),
+    }
+}
+
+/// Appends the end line of tokens that are no library.
+fn push_library(out: &mut Vec<u8>, fault: LibraryError) -> Result<(), AllocError>
+    ensures { OnOk result (out.new.items ≡ out.old.items ++ library_text fault) }
+{
+    match fault {
+        LibraryError::Syntax(token) => push_refused(out, b"library syntax at token ", token),
+        LibraryError::Twice(token) => push_refused(out, b"library name twice at token ", token),
+        LibraryError::Inner(token) => push_refused(out, b"library inner expand at token ", token),
+        LibraryError::OutOfMemory => out.extend_from_slice(b"end 6 memory\n"),
+    }
+}
+
+/// Appends the end line of a file with a use that isn't one of a definition.
+fn push_expansion(out: &mut Vec<u8>, fault: ExpandError) -> Result<(), AllocError>
+    ensures { OnOk result (out.new.items ≡ out.old.items ++ expansion_text fault) }
+{
+    match fault {
+        ExpandError::Unknown(token) => push_refused(out, b"no definition at token ", token),
+        ExpandError::Count(token) => push_refused(out, b"expand count at token ", token),
+        ExpandError::Tokens { count: _ } => out.extend_from_slice(b"end 7 limit: tokens\n"),
+        ExpandError::OutOfMemory => out.extend_from_slice(b"end 6 memory\n"),
+    }
+}
+
 /// Appends the end line of tokens that are no file.
 fn push_grammar(out: &mut Vec<u8>, fault: ParseError) -> Result<(), AllocError>
     ensures { OnOk result (out.new.items ≡ out.old.items ++ grammar_text fault) }
@@ -241,6 +278,9 @@ fn push_fault(out: &mut Vec<u8>, fault: FileFault) -> Result<(), AllocError>
 {
     match fault {
         FileFault::Lex(fault) => push_lexis(out, fault),
+        FileFault::LibraryLex(fault) => push_library_lexis(out, fault),
+        FileFault::Library(fault) => push_library(out, fault),
+        FileFault::Expand(fault) => push_expansion(out, fault),
         FileFault::Parse(fault) => push_grammar(out, fault),
         FileFault::Script(token) => push_script(out, token),
         FileFault::Types(fault) => push_types(out, fault),
@@ -330,6 +370,9 @@ pub(crate) fn push_end(out: &mut Vec<u8>, status: Status) -> Result<(), AllocErr
         Status::Write => out.extend_from_slice(b"end 5 write\n"),
         Status::Memory => out.extend_from_slice(b"end 6 memory\n"),
         Status::Limit(Which::File) => out.extend_from_slice(b"end 7 limit: file\n"),
+        Status::Limit(Which::Tokens { count: _ }) => {
+            out.extend_from_slice(b"end 7 limit: tokens\n")
+        }
         Status::Limit(Which::Nodes { count: _ }) => out.extend_from_slice(b"end 7 limit: nodes\n"),
         Status::Limit(Which::Depth { depth: _ }) => out.extend_from_slice(b"end 7 limit: depth\n"),
         Status::Limit(Which::Steps) => out.extend_from_slice(b"end 7 limit: steps\n"),

@@ -3,19 +3,19 @@ use Rattle.cv_follow_laws.proofs.Printed.{body_is}
 use Rattle.cv_follow_laws.proofs.reports_of_a_file_say_the_same.Goals as goal
 
 pub returns-clause-trail : goal.returns-clause-trail
-returns-clause-trail c = λ bytes r q f g w v n l. trails_are bytes r q f g w v n l
+returns-clause-trail c = λ source r q f g w v n l. trails_are source r q f g w v n l
 
 pub returns-clause-front : goal.returns-clause-front
-returns-clause-front c = λ bytes r q f g w v n l. front_of bytes r q f g w v n l
+returns-clause-front c = λ source r q f g w v n l. front_of source r q f g w v n l
 
 pub returns-clause-names : goal.returns-clause-names
-returns-clause-names c = λ bytes r q f g w v n l. names_are bytes r q f g w v n l
+returns-clause-names c = λ source r q f g w v n l. names_are source r q f g w v n l
 
 pub returns-clause-verdicts : goal.returns-clause-verdicts
-returns-clause-verdicts c = λ bytes r q f g w v n l. verdicts_are bytes r q f g w v n l
+returns-clause-verdicts c = λ source r q f g w v n l. verdicts_are source r q f g w v n l
 
 pub returns-clause-text : goal.returns-clause-text
-returns-clause-text c = λ bytes r q f g w v n l. body_is bytes r q f g w v n l
+returns-clause-text c = λ source r q f g w v n l. body_is source r q f g w v n l
 
 pub returns-clause-file : goal.returns-clause-file
-returns-clause-file c = λ bytes r q f g w v. file_is bytes r q f g w v
+returns-clause-file c = λ source r q f g w v. file_is source r q f g w v

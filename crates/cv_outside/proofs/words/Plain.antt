@@ -1,26 +1,20 @@
 -- Words in plain form are read.
-use Rattle.std.proofs.Common.{◌≡◌, ◌==◌, ◌∙◌, ℕ, zero, suc, ◌<◌, ◌≤◌, ◌^◌, Bool, true, false, cond, not, List, [], ◌∷◌, length, Option, Some, None, option_map, option_and_then, codes, if◌then◌else◌, ap, ap₂, refl, sym, subst, arith}
+use Rattle.std.proofs.Common.{◌≡◌, ◌==◌, ◌∙◌, Contains, All, ℕ, suc, ◌<◌, ◌≤◌, ◌^◌, Bool, true, false, cond, not, List, [], ◌∷◌, length, Option, Some, None, option_map, option_and_then, codes, ap, refl, sym, arith}
 use Rattle.std.proofs.lemmas.Bool.{ne_eqb}
 use Rattle.std.proofs.lemmas.Fmt.{decimal_is_IsNumeral}
+use Rattle.std.proofs.lemmas.List.Elements.{All-cons, All-contains, All-nil}
 use Rattle.std.proofs.lemmas.Slice.Eq.{bytes_eq-Decides}
 use Rattle.std.proofs.lemmas.Str.Parse.{digit_from_value}
 use Rattle.std.specs.Fmt.{decimal}
 use Rattle.std.specs.Str.{bytes_eq}
 use Rattle.std.specs.Str.Parse.{AllDigits}
-use Rattle.clap.specs.Faults.{fault_of}
 use Rattle.clap.specs.Lexer.{strip_byte}
-use Rattle.clap.specs.Words.{Row, first_of, subcommand_of}
-use Rattle.clap.proofs.OnLiterals.{clap_on_literals}
-use Rattle.cv_outside.specs.words.Clap.{cv_app, taken}
-use Rattle.cv_outside.specs.words.Forms.{Asked, Games, IsForm, Prove, Sample, Text, is_operand, most_moves, most_samples, usual_moves}
+use Rattle.cv_outside.specs.words.Forms.{Asked, Games, IsForm, Part, Prove, Sample, Text, games_parts, is_operand, most_moves, most_samples, orders, prove_parts, sample_parts, usual_moves}
 use Rattle.cv_outside.specs.words.Forms as form
-use Rattle.cv_outside.specs.words.Words.{asked_by, command_read, file_in, games_asked, number_in, prove_asked, sample_asked}
+use Rattle.cv_outside.specs.words.Words.{command_read, file_in, games_asked, library_in, moves_in, number_in, prove_asked, sample_asked}
+use Rattle.cv_outside.proofs.words.Found.{FileReads, IsPlainWord, NumberReads, proves, samples, shows}
 use Rattle.cv_outside.proofs.words.Numbers.{number_some}
-
--- what `clap` asks of an operand: it is no option, and not `--`
-record IsPlainWord (word : Text) : Type 0 where
-  first : strip_byte 45 word ≡ None
-  other : bytes_eq word (45 ∷ 45 ∷ []) ≡ false
+use Rattle.cv_outside.proofs.words.Orders.{games_file_alone, games_file_lib, games_lib_file, prove_file_alone, prove_file_lib, prove_file_lib_more, prove_file_lib_more_moves, prove_file_lib_moves, prove_file_lib_moves_more, prove_file_more, prove_file_more_lib, prove_file_more_lib_moves, prove_file_more_moves, prove_file_more_moves_lib, prove_file_moves, prove_file_moves_lib, prove_file_moves_lib_more, prove_file_moves_more, prove_file_moves_more_lib, prove_lib_file, prove_lib_file_more, prove_lib_file_more_moves, prove_lib_file_moves, prove_lib_file_moves_more, prove_lib_more_file, prove_lib_more_file_moves, prove_lib_more_moves_file, prove_lib_moves_file, prove_lib_moves_file_more, prove_lib_moves_more_file, prove_more_file, prove_more_file_lib, prove_more_file_lib_moves, prove_more_file_moves, prove_more_file_moves_lib, prove_more_lib_file, prove_more_lib_file_moves, prove_more_lib_moves_file, prove_more_moves_file, prove_more_moves_file_lib, prove_more_moves_lib_file, prove_moves_file, prove_moves_file_lib, prove_moves_file_lib_more, prove_moves_file_more, prove_moves_file_more_lib, prove_moves_lib_file, prove_moves_lib_file_more, prove_moves_lib_more_file, prove_moves_more_file, prove_moves_more_file_lib, prove_moves_more_lib_file, sample_number_alone, sample_number_prove, sample_prove_number}
 
 not_true : (x : Bool) → not x ≡ true → x ≡ false
 not_true false e = refl
@@ -57,232 +51,105 @@ named (b ∷ bs) e = ap (λ x. cond x None (Some (b ∷ bs))) (ne_eqb (suc (leng
 number_here : (least most n : ℕ) → most < 2 ^ 64 → least ≤ n → n ≤ most → number_in least most (decimal n) ≡ Some n
 number_here least most n small l m = sym (number_some least most n (decimal n) (omega arith) (refl, (l, m)))
 
--- the subcommand and what stands behind it
+-- what holds of each of some lists of parts holds of one of them
 
-abbrev Found : Type 0
-Found = Text × Option Text × Option Text
+abbrev Each : (List Part → Type 0) → List (List Part) → Type 0
+Each P [] = Unit {0}
+Each P (x ∷ xs) = P x × Each P xs
 
-abbrev FoundFile : Type 0
-FoundFile = Text × Option Text × Option Text × Option Text
+each_all : (P : List Part → Type 0) (xs : List (List Part)) → Each P xs → All P xs
+each_all P [] h = All-nil P
+each_all P (x ∷ xs) h = All-cons P x xs h.0 (each_all P xs h.1)
 
-abbrev file_found : Option (Text × List Row) → Option FoundFile
-file_found = option_map (λ p. (p.0, first_of (codes "file") p.1, first_of (codes "moves") p.1, first_of (codes "more") p.1))
-
-abbrev number_found : Option (Text × List Row) → Option Found
-number_found = option_map (λ p. (p.0, first_of (codes "number") p.1, first_of (codes "prove") p.1))
-
-abbrev asked_in : Option (Text × List Row) → Option Asked
-asked_in = option_and_then (λ p. asked_by p.0 p.1)
-
-by_prove : (o : Option (Text × List Row)) (a b m : Option Text) → file_found o ≡ Some (codes "prove", a, b, m) → asked_in o ≡ prove_asked a b m
-by_prove None a b m e = absurd (cc)
-by_prove (Some p) a b m e =
-    let t : ◌≡◌ {A = FoundFile} (p.0, first_of (codes "file") p.1, first_of (codes "moves") p.1, first_of (codes "more") p.1) (codes "prove", a, b, m) = cc in
-    ap (λ (n : Text). asked_by n p.1) (ap (λ (x : FoundFile). x.0) t) ∙ ap (λ (x : FoundFile). prove_asked x.1 x.2 x.3) t
-
-by_games : (o : Option (Text × List Row)) (a b m : Option Text) → file_found o ≡ Some (codes "games", a, b, m) → asked_in o ≡ games_asked a
-by_games None a b m e = absurd (cc)
-by_games (Some p) a b m e =
-    let t : ◌≡◌ {A = FoundFile} (p.0, first_of (codes "file") p.1, first_of (codes "moves") p.1, first_of (codes "more") p.1) (codes "games", a, b, m) = cc in
-    ap (λ (n : Text). asked_by n p.1) (ap (λ (x : FoundFile). x.0) t) ∙ ap games_asked (ap (λ (x : FoundFile). x.1) t)
-
-by_sample : (o : Option (Text × List Row)) (a b : Option Text) → number_found o ≡ Some (codes "sample", a, b) → asked_in o ≡ sample_asked a b
-by_sample None a b e = absurd (cc)
-by_sample (Some p) a b e =
-    let t : ◌≡◌ {A = Found} (p.0, first_of (codes "number") p.1, first_of (codes "prove") p.1) (codes "sample", a, b) = cc in
-    ap (λ (n : Text). asked_by n p.1) (ap (λ (x : Found). x.0) t) ∙ ap₂ sample_asked (ap (λ (x : Found). x.1) t) (ap (λ (x : Found). x.2) t)
-
--- where there is no fault, they are what is read
-read : (words : List Text) (asked : Option Asked) → fault_of cv_app words ≡ [] → asked_in (subcommand_of cv_app words) ≡ asked → command_read words ≡ asked
-unfolding command_read
-read words asked f s = ap (λ ks. asked_in (if length ks == 0 then subcommand_of cv_app words else None)) f ∙ s
-
--- each form, with words that `clap` takes
-
-prove_fault : (program word : Text) → IsPlainWord word → fault_of cv_app (program ∷ codes "prove" ∷ word ∷ []) ≡ []
-unfolding clap_on_literals
-prove_fault program word k = rw (k.first, k.other, k.first) refl
-
-prove_found : (program word : Text) → IsPlainWord word → file_found (subcommand_of cv_app (program ∷ codes "prove" ∷ word ∷ [])) ≡ Some (codes "prove", Some word, None, Some (codes "false"))
-unfolding clap_on_literals
-prove_found program word k = rw (k.first, k.other, k.first) refl
-
-prove_more_fault : (program word : Text) → IsPlainWord word → fault_of cv_app (program ∷ codes "prove" ∷ word ∷ codes "--more" ∷ []) ≡ []
-unfolding clap_on_literals
-prove_more_fault program word k = rw (k.first, k.other, k.first) refl
-
-prove_more_found : (program word : Text) → IsPlainWord word → file_found (subcommand_of cv_app (program ∷ codes "prove" ∷ word ∷ codes "--more" ∷ [])) ≡ Some (codes "prove", Some word, None, Some (codes "true"))
-unfolding clap_on_literals
-prove_more_found program word k = rw (k.first, k.other, k.first) refl
-
-more_prove_fault : (program word : Text) → IsPlainWord word → fault_of cv_app (program ∷ codes "prove" ∷ codes "--more" ∷ word ∷ []) ≡ []
-unfolding clap_on_literals
-more_prove_fault program word k = rw (k.first, k.other, k.first) refl
-
-more_prove_found : (program word : Text) → IsPlainWord word → file_found (subcommand_of cv_app (program ∷ codes "prove" ∷ codes "--more" ∷ word ∷ [])) ≡ Some (codes "prove", Some word, None, Some (codes "true"))
-unfolding clap_on_literals
-more_prove_found program word k = rw (k.first, k.other, k.first) refl
-
-behind_fault : (program word n : Text) → IsPlainWord word → IsPlainWord n → fault_of cv_app (program ∷ codes "prove" ∷ word ∷ codes "--moves" ∷ n ∷ []) ≡ []
-unfolding clap_on_literals
-behind_fault program word n k l = rw (k.first, k.other, k.first, l.first, l.other, l.first) refl
-
-behind_found : (program word n : Text) → IsPlainWord word → IsPlainWord n → file_found (subcommand_of cv_app (program ∷ codes "prove" ∷ word ∷ codes "--moves" ∷ n ∷ [])) ≡ Some (codes "prove", Some word, Some n, Some (codes "false"))
-unfolding clap_on_literals
-behind_found program word n k l = rw (k.first, k.other, k.first, l.first, l.other, l.first) refl
-
-before_fault : (program word n : Text) → IsPlainWord word → IsPlainWord n → fault_of cv_app (program ∷ codes "prove" ∷ codes "--moves" ∷ n ∷ word ∷ []) ≡ []
-unfolding clap_on_literals
-before_fault program word n k l = rw (l.first, l.other, l.first, k.first, k.other, k.first) refl
-
-before_found : (program word n : Text) → IsPlainWord word → IsPlainWord n → file_found (subcommand_of cv_app (program ∷ codes "prove" ∷ codes "--moves" ∷ n ∷ word ∷ [])) ≡ Some (codes "prove", Some word, Some n, Some (codes "false"))
-unfolding clap_on_literals
-before_found program word n k l = rw (l.first, l.other, l.first, k.first, k.other, k.first) refl
-
-prove_moves_more_fault : (program word n : Text) → IsPlainWord word → IsPlainWord n → fault_of cv_app (program ∷ codes "prove" ∷ word ∷ codes "--moves" ∷ n ∷ codes "--more" ∷ []) ≡ []
-unfolding clap_on_literals
-prove_moves_more_fault program word n k l = rw (k.first, k.other, k.first, l.first, l.other, l.first) refl
-
-prove_moves_more_found : (program word n : Text) → IsPlainWord word → IsPlainWord n → file_found (subcommand_of cv_app (program ∷ codes "prove" ∷ word ∷ codes "--moves" ∷ n ∷ codes "--more" ∷ [])) ≡ Some (codes "prove", Some word, Some n, Some (codes "true"))
-unfolding clap_on_literals
-prove_moves_more_found program word n k l = rw (k.first, k.other, k.first, l.first, l.other, l.first) refl
-
-prove_more_moves_fault : (program word n : Text) → IsPlainWord word → IsPlainWord n → fault_of cv_app (program ∷ codes "prove" ∷ word ∷ codes "--more" ∷ codes "--moves" ∷ n ∷ []) ≡ []
-unfolding clap_on_literals
-prove_more_moves_fault program word n k l = rw (k.first, k.other, k.first, l.first, l.other, l.first) refl
-
-prove_more_moves_found : (program word n : Text) → IsPlainWord word → IsPlainWord n → file_found (subcommand_of cv_app (program ∷ codes "prove" ∷ word ∷ codes "--more" ∷ codes "--moves" ∷ n ∷ [])) ≡ Some (codes "prove", Some word, Some n, Some (codes "true"))
-unfolding clap_on_literals
-prove_more_moves_found program word n k l = rw (k.first, k.other, k.first, l.first, l.other, l.first) refl
-
-moves_prove_more_fault : (program word n : Text) → IsPlainWord word → IsPlainWord n → fault_of cv_app (program ∷ codes "prove" ∷ codes "--moves" ∷ n ∷ word ∷ codes "--more" ∷ []) ≡ []
-unfolding clap_on_literals
-moves_prove_more_fault program word n k l = rw (l.first, l.other, l.first, k.first, k.other, k.first) refl
-
-moves_prove_more_found : (program word n : Text) → IsPlainWord word → IsPlainWord n → file_found (subcommand_of cv_app (program ∷ codes "prove" ∷ codes "--moves" ∷ n ∷ word ∷ codes "--more" ∷ [])) ≡ Some (codes "prove", Some word, Some n, Some (codes "true"))
-unfolding clap_on_literals
-moves_prove_more_found program word n k l = rw (l.first, l.other, l.first, k.first, k.other, k.first) refl
-
-moves_more_prove_fault : (program word n : Text) → IsPlainWord word → IsPlainWord n → fault_of cv_app (program ∷ codes "prove" ∷ codes "--moves" ∷ n ∷ codes "--more" ∷ word ∷ []) ≡ []
-unfolding clap_on_literals
-moves_more_prove_fault program word n k l = rw (l.first, l.other, l.first, k.first, k.other, k.first) refl
-
-moves_more_prove_found : (program word n : Text) → IsPlainWord word → IsPlainWord n → file_found (subcommand_of cv_app (program ∷ codes "prove" ∷ codes "--moves" ∷ n ∷ codes "--more" ∷ word ∷ [])) ≡ Some (codes "prove", Some word, Some n, Some (codes "true"))
-unfolding clap_on_literals
-moves_more_prove_found program word n k l = rw (l.first, l.other, l.first, k.first, k.other, k.first) refl
-
-more_prove_moves_fault : (program word n : Text) → IsPlainWord word → IsPlainWord n → fault_of cv_app (program ∷ codes "prove" ∷ codes "--more" ∷ word ∷ codes "--moves" ∷ n ∷ []) ≡ []
-unfolding clap_on_literals
-more_prove_moves_fault program word n k l = rw (k.first, k.other, k.first, l.first, l.other, l.first) refl
-
-more_prove_moves_found : (program word n : Text) → IsPlainWord word → IsPlainWord n → file_found (subcommand_of cv_app (program ∷ codes "prove" ∷ codes "--more" ∷ word ∷ codes "--moves" ∷ n ∷ [])) ≡ Some (codes "prove", Some word, Some n, Some (codes "true"))
-unfolding clap_on_literals
-more_prove_moves_found program word n k l = rw (k.first, k.other, k.first, l.first, l.other, l.first) refl
-
-more_moves_prove_fault : (program word n : Text) → IsPlainWord word → IsPlainWord n → fault_of cv_app (program ∷ codes "prove" ∷ codes "--more" ∷ codes "--moves" ∷ n ∷ word ∷ []) ≡ []
-unfolding clap_on_literals
-more_moves_prove_fault program word n k l = rw (l.first, l.other, l.first, k.first, k.other, k.first) refl
-
-more_moves_prove_found : (program word n : Text) → IsPlainWord word → IsPlainWord n → file_found (subcommand_of cv_app (program ∷ codes "prove" ∷ codes "--more" ∷ codes "--moves" ∷ n ∷ word ∷ [])) ≡ Some (codes "prove", Some word, Some n, Some (codes "true"))
-unfolding clap_on_literals
-more_moves_prove_found program word n k l = rw (l.first, l.other, l.first, k.first, k.other, k.first) refl
-
-games_fault : (program word : Text) → IsPlainWord word → fault_of cv_app (program ∷ codes "games" ∷ word ∷ []) ≡ []
-unfolding clap_on_literals
-games_fault program word k = rw (k.first, k.other, k.first) refl
-
-games_found : (program word : Text) → IsPlainWord word → file_found (subcommand_of cv_app (program ∷ codes "games" ∷ word ∷ [])) ≡ Some (codes "games", Some word, None, None)
-unfolding clap_on_literals
-games_found program word k = rw (k.first, k.other, k.first) refl
-
-sample_fault : (program n : Text) → IsPlainWord n → fault_of cv_app (program ∷ codes "sample" ∷ n ∷ []) ≡ []
-unfolding clap_on_literals
-sample_fault program n k = rw (k.first, k.other, k.first) refl
-
-sample_found : (program n : Text) → IsPlainWord n → number_found (subcommand_of cv_app (program ∷ codes "sample" ∷ n ∷ [])) ≡ Some (codes "sample", Some n, Some (codes "false"))
-unfolding clap_on_literals
-sample_found program n k = rw (k.first, k.other, k.first) refl
-
-flag_before_fault : (program n : Text) → IsPlainWord n → fault_of cv_app (program ∷ codes "sample" ∷ codes "--prove" ∷ n ∷ []) ≡ []
-unfolding clap_on_literals
-flag_before_fault program n k = rw (k.first, k.other, k.first) refl
-
-flag_before_found : (program n : Text) → IsPlainWord n → number_found (subcommand_of cv_app (program ∷ codes "sample" ∷ codes "--prove" ∷ n ∷ [])) ≡ Some (codes "sample", Some n, Some (codes "true"))
-unfolding clap_on_literals
-flag_before_found program n k = rw (k.first, k.other, k.first) refl
-
-flag_behind_fault : (program n : Text) → IsPlainWord n → fault_of cv_app (program ∷ codes "sample" ∷ n ∷ codes "--prove" ∷ []) ≡ []
-unfolding clap_on_literals
-flag_behind_fault program n k = rw (k.first, k.other, k.first) refl
-
-flag_behind_found : (program n : Text) → IsPlainWord n → number_found (subcommand_of cv_app (program ∷ codes "sample" ∷ n ∷ codes "--prove" ∷ [])) ≡ Some (codes "sample", Some n, Some (codes "true"))
-unfolding clap_on_literals
-flag_behind_found program n k = rw (k.first, k.other, k.first) refl
+within : (P : List Part → Type 0) (xs : List (List Part)) (x : List Part) → Each P xs → Contains xs x → P x
+within P xs x h c = All-contains P xs x (each_all P xs h) c
 
 -- what the values come to
 
-prove_here : (file : Text) (n : ℕ) (flag : Text) → is_operand file ≡ true → n ≤ most_moves → prove_asked (Some file) (Some (decimal n)) (Some flag) ≡ Some (Prove file n (bytes_eq flag (codes "true")))
-prove_here file n flag o l =
-    ap (λ f. option_and_then (λ name. option_map (λ m. Prove name m (bytes_eq flag (codes "true"))) (number_in 0 most_moves (decimal n))) f) (named file o)
-    ∙ ap (λ m. option_map (λ m. Prove file m (bytes_eq flag (codes "true"))) m) (number_here 0 most_moves n (omega arith) (omega arith) l)
+prove_here : (file : Text) (moves : Option Text) (n : ℕ) (flag : Text) (library : Option Text) → is_operand file ≡ true → moves_in moves ≡ Some n → library_in library ≡ Some library
+    → prove_asked (Some file) moves (Some flag) library ≡ Some (Prove file n (bytes_eq flag (codes "true")) library)
+prove_here file moves n flag library o m l =
+    ap (λ f. option_and_then (λ name. option_and_then (λ k. option_map (λ b. Prove name k (bytes_eq flag (codes "true")) b) (library_in library)) (moves_in moves)) f) (named file o)
+    ∙ ap (λ m. option_and_then (λ k. option_map (λ b. Prove file k (bytes_eq flag (codes "true")) b) (library_in library)) m) m
+    ∙ ap (option_map (λ b. Prove file n (bytes_eq flag (codes "true")) b)) l
 
-usual_here : (file : Text) (flag : Text) → is_operand file ≡ true → prove_asked (Some file) None (Some flag) ≡ Some (Prove file usual_moves (bytes_eq flag (codes "true")))
-usual_here file flag o = ap (λ f. option_and_then (λ name. Some (Prove name usual_moves (bytes_eq flag (codes "true")))) f) (named file o)
+games_here : (file : Text) (library : Option Text) → is_operand file ≡ true → library_in library ≡ Some library → games_asked (Some file) library ≡ Some (Games file library)
+games_here file library o l = ap (λ f. option_and_then (λ name. option_map (λ b. Games name b) (library_in library)) f) (named file o) ∙ ap (option_map (λ b. Games file b)) l
 
 sample_here : (n : ℕ) (flag : Text) → 1 ≤ n → n ≤ most_samples → sample_asked (Some (decimal n)) (Some flag) ≡ Some (Sample n (bytes_eq flag (codes "true")))
 sample_here n flag l m = ap (λ o. option_map (λ k. Sample k (bytes_eq flag (codes "true"))) o) (number_here 1 most_samples n (omega arith) l m)
 
 pub plain_is_read : (program : Text) (words : List Text) (asked : Asked) → IsForm program words asked → command_read words ≡ Some asked
-plain_is_read program _ _ (form.prove file o) =
-    let k = plain_word file o in
-    read _ _ (prove_fault program file k) (by_prove _ _ _ _ (prove_found program file k) ∙ usual_here file (codes "false") o)
-plain_is_read program _ _ (form.prove_more file o) =
-    let k = plain_word file o in
-    read _ _ (prove_more_fault program file k) (by_prove _ _ _ _ (prove_more_found program file k) ∙ usual_here file (codes "true") o)
-plain_is_read program _ _ (form.more_prove file o) =
-    let k = plain_word file o in
-    read _ _ (more_prove_fault program file k) (by_prove _ _ _ _ (more_prove_found program file k) ∙ usual_here file (codes "true") o)
-plain_is_read program _ _ (form.prove_moves file n o l) =
-    let k = plain_word file o in
+plain_is_read program _ _ (form.prove file None false None parts o b q c) =
+    let f = plain_word file o in
+    proves program file None (codes "false") None (Some (Prove file usual_moves false None)) parts
+    (within (FileReads program (codes "prove") file None (Some (codes "false")) None) (orders (prove_parts file None false None)) parts (prove_file_alone program file f, tt) c)
+    (prove_here file None usual_moves (codes "false") None o refl refl)
+plain_is_read program _ _ (form.prove file None false (Some l) parts o b q c) =
+    let f = plain_word file o in
+    let k = plain_word l q in
+    proves program file None (codes "false") (Some l) (Some (Prove file usual_moves false (Some l))) parts
+    (within (FileReads program (codes "prove") file None (Some (codes "false")) (Some l)) (orders (prove_parts file None false (Some l))) parts (prove_file_lib program file l f k, (prove_lib_file program file l f k, tt)) c)
+    (prove_here file None usual_moves (codes "false") (Some l) o refl (ap (option_map (λ x. Some x)) (named l q)))
+plain_is_read program _ _ (form.prove file None true None parts o b q c) =
+    let f = plain_word file o in
+    proves program file None (codes "true") None (Some (Prove file usual_moves true None)) parts
+    (within (FileReads program (codes "prove") file None (Some (codes "true")) None) (orders (prove_parts file None true None)) parts (prove_file_more program file f, (prove_more_file program file f, tt)) c)
+    (prove_here file None usual_moves (codes "true") None o refl refl)
+plain_is_read program _ _ (form.prove file None true (Some l) parts o b q c) =
+    let f = plain_word file o in
+    let k = plain_word l q in
+    proves program file None (codes "true") (Some l) (Some (Prove file usual_moves true (Some l))) parts
+    (within (FileReads program (codes "prove") file None (Some (codes "true")) (Some l)) (orders (prove_parts file None true (Some l))) parts (prove_file_more_lib program file l f k, (prove_more_file_lib program file l f k, (prove_more_lib_file program file l f k, (prove_file_lib_more program file l f k, (prove_lib_file_more program file l f k, (prove_lib_more_file program file l f k, tt)))))) c)
+    (prove_here file None usual_moves (codes "true") (Some l) o refl (ap (option_map (λ x. Some x)) (named l q)))
+plain_is_read program _ _ (form.prove file (Some n) false None parts o b q c) =
+    let f = plain_word file o in
+    let few : n ≤ most_moves = b in
     let m = number_word n (omega arith) in
-    read _ _ (behind_fault program file (decimal n) k m) (by_prove _ _ _ _ (behind_found program file (decimal n) k m) ∙ prove_here file n (codes "false") o l)
-plain_is_read program _ _ (form.moves_prove file n o l) =
-    let k = plain_word file o in
+    proves program file (Some (decimal n)) (codes "false") None (Some (Prove file n false None)) parts
+    (within (FileReads program (codes "prove") file (Some (decimal n)) (Some (codes "false")) None) (orders (prove_parts file (Some n) false None)) parts (prove_file_moves program file (decimal n) f m, (prove_moves_file program file (decimal n) f m, tt)) c)
+    (prove_here file (Some (decimal n)) n (codes "false") None o (number_here 0 most_moves n (omega arith) (omega arith) b) refl)
+plain_is_read program _ _ (form.prove file (Some n) false (Some l) parts o b q c) =
+    let f = plain_word file o in
+    let few : n ≤ most_moves = b in
     let m = number_word n (omega arith) in
-    read _ _ (before_fault program file (decimal n) k m) (by_prove _ _ _ _ (before_found program file (decimal n) k m) ∙ prove_here file n (codes "false") o l)
-plain_is_read program _ _ (form.prove_moves_more file n o l) =
-    let k = plain_word file o in
+    let k = plain_word l q in
+    proves program file (Some (decimal n)) (codes "false") (Some l) (Some (Prove file n false (Some l))) parts
+    (within (FileReads program (codes "prove") file (Some (decimal n)) (Some (codes "false")) (Some l)) (orders (prove_parts file (Some n) false (Some l))) parts (prove_file_moves_lib program file (decimal n) l f m k, (prove_moves_file_lib program file (decimal n) l f m k, (prove_moves_lib_file program file (decimal n) l f m k, (prove_file_lib_moves program file (decimal n) l f m k, (prove_lib_file_moves program file (decimal n) l f m k, (prove_lib_moves_file program file (decimal n) l f m k, tt)))))) c)
+    (prove_here file (Some (decimal n)) n (codes "false") (Some l) o (number_here 0 most_moves n (omega arith) (omega arith) b) (ap (option_map (λ x. Some x)) (named l q)))
+plain_is_read program _ _ (form.prove file (Some n) true None parts o b q c) =
+    let f = plain_word file o in
+    let few : n ≤ most_moves = b in
     let m = number_word n (omega arith) in
-    read _ _ (prove_moves_more_fault program file (decimal n) k m) (by_prove _ _ _ _ (prove_moves_more_found program file (decimal n) k m) ∙ prove_here file n (codes "true") o l)
-plain_is_read program _ _ (form.prove_more_moves file n o l) =
-    let k = plain_word file o in
+    proves program file (Some (decimal n)) (codes "true") None (Some (Prove file n true None)) parts
+    (within (FileReads program (codes "prove") file (Some (decimal n)) (Some (codes "true")) None) (orders (prove_parts file (Some n) true None)) parts (prove_file_moves_more program file (decimal n) f m, (prove_moves_file_more program file (decimal n) f m, (prove_moves_more_file program file (decimal n) f m, (prove_file_more_moves program file (decimal n) f m, (prove_more_file_moves program file (decimal n) f m, (prove_more_moves_file program file (decimal n) f m, tt)))))) c)
+    (prove_here file (Some (decimal n)) n (codes "true") None o (number_here 0 most_moves n (omega arith) (omega arith) b) refl)
+plain_is_read program _ _ (form.prove file (Some n) true (Some l) parts o b q c) =
+    let f = plain_word file o in
+    let few : n ≤ most_moves = b in
     let m = number_word n (omega arith) in
-    read _ _ (prove_more_moves_fault program file (decimal n) k m) (by_prove _ _ _ _ (prove_more_moves_found program file (decimal n) k m) ∙ prove_here file n (codes "true") o l)
-plain_is_read program _ _ (form.moves_prove_more file n o l) =
-    let k = plain_word file o in
+    let k = plain_word l q in
+    proves program file (Some (decimal n)) (codes "true") (Some l) (Some (Prove file n true (Some l))) parts
+    (within (FileReads program (codes "prove") file (Some (decimal n)) (Some (codes "true")) (Some l)) (orders (prove_parts file (Some n) true (Some l))) parts (prove_file_moves_more_lib program file (decimal n) l f m k, (prove_moves_file_more_lib program file (decimal n) l f m k, (prove_moves_more_file_lib program file (decimal n) l f m k, (prove_moves_more_lib_file program file (decimal n) l f m k, (prove_file_more_moves_lib program file (decimal n) l f m k, (prove_more_file_moves_lib program file (decimal n) l f m k, (prove_more_moves_file_lib program file (decimal n) l f m k, (prove_more_moves_lib_file program file (decimal n) l f m k, (prove_file_more_lib_moves program file (decimal n) l f m k, (prove_more_file_lib_moves program file (decimal n) l f m k, (prove_more_lib_file_moves program file (decimal n) l f m k, (prove_more_lib_moves_file program file (decimal n) l f m k, (prove_file_moves_lib_more program file (decimal n) l f m k, (prove_moves_file_lib_more program file (decimal n) l f m k, (prove_moves_lib_file_more program file (decimal n) l f m k, (prove_moves_lib_more_file program file (decimal n) l f m k, (prove_file_lib_moves_more program file (decimal n) l f m k, (prove_lib_file_moves_more program file (decimal n) l f m k, (prove_lib_moves_file_more program file (decimal n) l f m k, (prove_lib_moves_more_file program file (decimal n) l f m k, (prove_file_lib_more_moves program file (decimal n) l f m k, (prove_lib_file_more_moves program file (decimal n) l f m k, (prove_lib_more_file_moves program file (decimal n) l f m k, (prove_lib_more_moves_file program file (decimal n) l f m k, tt)))))))))))))))))))))))) c)
+    (prove_here file (Some (decimal n)) n (codes "true") (Some l) o (number_here 0 most_moves n (omega arith) (omega arith) b) (ap (option_map (λ x. Some x)) (named l q)))
+plain_is_read program _ _ (form.games file None parts o q c) =
+    let f = plain_word file o in
+    shows program file None (Some (Games file None)) parts
+    (within (FileReads program (codes "games") file None None None) (orders (games_parts file None)) parts (games_file_alone program file f, tt) c)
+    (games_here file None o refl)
+plain_is_read program _ _ (form.games file (Some l) parts o q c) =
+    let f = plain_word file o in
+    let k = plain_word l q in
+    shows program file (Some l) (Some (Games file (Some l))) parts
+    (within (FileReads program (codes "games") file None None (Some l)) (orders (games_parts file (Some l))) parts (games_file_lib program file l f k, (games_lib_file program file l f k, tt)) c)
+    (games_here file (Some l) o (ap (option_map (λ x. Some x)) (named l q)))
+plain_is_read program _ _ (form.sample n false parts l b c) =
     let m = number_word n (omega arith) in
-    read _ _ (moves_prove_more_fault program file (decimal n) k m) (by_prove _ _ _ _ (moves_prove_more_found program file (decimal n) k m) ∙ prove_here file n (codes "true") o l)
-plain_is_read program _ _ (form.moves_more_prove file n o l) =
-    let k = plain_word file o in
+    samples program (decimal n) (codes "false") (Some (Sample n false)) parts
+    (within (NumberReads program (decimal n) (codes "false")) (orders (sample_parts n false)) parts (sample_number_alone program (decimal n) m, tt) c)
+    (sample_here n (codes "false") l b)
+plain_is_read program _ _ (form.sample n true parts l b c) =
     let m = number_word n (omega arith) in
-    read _ _ (moves_more_prove_fault program file (decimal n) k m) (by_prove _ _ _ _ (moves_more_prove_found program file (decimal n) k m) ∙ prove_here file n (codes "true") o l)
-plain_is_read program _ _ (form.more_prove_moves file n o l) =
-    let k = plain_word file o in
-    let m = number_word n (omega arith) in
-    read _ _ (more_prove_moves_fault program file (decimal n) k m) (by_prove _ _ _ _ (more_prove_moves_found program file (decimal n) k m) ∙ prove_here file n (codes "true") o l)
-plain_is_read program _ _ (form.more_moves_prove file n o l) =
-    let k = plain_word file o in
-    let m = number_word n (omega arith) in
-    read _ _ (more_moves_prove_fault program file (decimal n) k m) (by_prove _ _ _ _ (more_moves_prove_found program file (decimal n) k m) ∙ prove_here file n (codes "true") o l)
-plain_is_read program _ _ (form.games file o) =
-    let k = plain_word file o in
-    read _ _ (games_fault program file k) (by_games _ _ _ _ (games_found program file k) ∙ ap (λ f. option_map (λ name. Games name) f) (named file o))
-plain_is_read program _ _ (form.sample n l m) =
-    let k = number_word n (omega arith) in
-    read _ _ (sample_fault program (decimal n) k) (by_sample _ _ _ (sample_found program (decimal n) k) ∙ sample_here n (codes "false") l m)
-plain_is_read program _ _ (form.sample_prove n l m) =
-    let k = number_word n (omega arith) in
-    read _ _ (flag_behind_fault program (decimal n) k) (by_sample _ _ _ (flag_behind_found program (decimal n) k) ∙ sample_here n (codes "true") l m)
-plain_is_read program _ _ (form.prove_sample n l m) =
-    let k = number_word n (omega arith) in
-    read _ _ (flag_before_fault program (decimal n) k) (by_sample _ _ _ (flag_before_found program (decimal n) k) ∙ sample_here n (codes "true") l m)
+    samples program (decimal n) (codes "true") (Some (Sample n true)) parts
+    (within (NumberReads program (decimal n) (codes "true")) (orders (sample_parts n true)) parts (sample_number_prove program (decimal n) m, (sample_prove_number program (decimal n) m, tt)) c)
+    (sample_here n (codes "true") l b)

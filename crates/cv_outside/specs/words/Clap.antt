@@ -23,14 +23,17 @@ moves_rule = record (new_rule (codes "moves")) { long = Some (codes "moves") }
 abbrev pub more_rule : Rule
 more_rule = record (new_rule (codes "more")) { long = Some (codes "more"); action = Some SetTrue }
 
+abbrev pub lib_rule : Rule
+lib_rule = record (new_rule (codes "lib")) { long = Some (codes "lib") }
+
 abbrev pub prove_rule : Rule
 prove_rule = record (new_rule (codes "prove")) { long = Some (codes "prove"); action = Some SetTrue }
 
 abbrev pub prove_app : App
-prove_app = with_rule (with_rule (with_rule (new_app (codes "prove")) file_rule) moves_rule) more_rule
+prove_app = with_rule (with_rule (with_rule (with_rule (new_app (codes "prove")) file_rule) moves_rule) more_rule) lib_rule
 
 abbrev pub games_app : App
-games_app = with_rule (new_app (codes "games")) file_rule
+games_app = with_rule (with_rule (new_app (codes "games")) file_rule) lib_rule
 
 abbrev pub sample_app : App
 sample_app = with_rule (with_rule (new_app (codes "sample")) number_rule) prove_rule

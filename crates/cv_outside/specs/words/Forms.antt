@@ -1,15 +1,17 @@
 -- The commands of the program, and the words that give them: behind the program's name one of these forms, with options before and
 -- behind the one operand, in any order. This profile's own.
-use Rattle.std.specs.Prelude.{ℕ, ◌≤◌, ◌==◌, ◌≡◌, Bool, true, false, not, List, [], ◌∷◌, codes}
+use Rattle.std.specs.Prelude.{ℕ, ◌≤◌, ◌==◌, ◌≡◌, ◌++◌, Bool, true, false, not, Contains, List, [], ◌∷◌, codes, map, IfSome, Option, Some, None, option_map, unwrap_or}
 use Rattle.std.specs.Fmt.{decimal}
+use Rattle.std.specs.List.{flat_map}
 
 abbrev pub Text : Type 0
 Text = List ℕ
 
--- a proof of a file's queries, in at most so many moves, with or without further ones; the games of its proof block; the text of a sample, or a proof of its queries
+-- a proof of a file's queries, in at most so many moves, with or without further ones; the games of its proof block, both with or without
+-- a library; the text of a sample, or a proof of its queries
 pub data Asked : Type 0 where
-  Prove : (file : Text) (moves : ℕ) (more : Bool) → Asked
-  Games : (file : Text) → Asked
+  Prove : (file : Text) (moves : ℕ) (more : Bool) (library : Option Text) → Asked
+  Games : (file : Text) (library : Option Text) → Asked
   Sample : (number : ℕ) (prove : Bool) → Asked
 
 -- how many moves a proof has where the words don't say, and how many they may say
@@ -28,20 +30,49 @@ abbrev pub is_operand : Text → Bool
 is_operand [] = false
 is_operand (b ∷ bs) = not (b == 45)
 
--- A number is written in decimal digits, without sign or leading zero.
+-- what stands behind a subcommand, in parts: the operand, and each option with its value, if it has one
+abbrev pub Part : Type 0
+Part = List Text
+
+abbrev pub valued : (name : Text) → Option Text → List Part
+valued name None = []
+valued name (Some value) = (name ∷ value ∷ []) ∷ []
+
+abbrev pub flagged : (name : Text) → Bool → List Part
+flagged name false = []
+flagged name true = (name ∷ []) ∷ []
+
+-- a number is written in decimal digits, without sign or leading zero
+
+abbrev pub prove_parts : (file : Text) (moves : Option ℕ) (more : Bool) (library : Option Text) → List Part
+prove_parts file moves more library = (file ∷ []) ∷ (valued (codes "--moves") (option_map decimal moves) ++ (flagged (codes "--more") more ++ valued (codes "--lib") library))
+
+abbrev pub games_parts : (file : Text) (library : Option Text) → List Part
+games_parts file library = (file ∷ []) ∷ valued (codes "--lib") library
+
+abbrev pub sample_parts : (number : ℕ) (prove : Bool) → List Part
+sample_parts number prove = (decimal number ∷ []) ∷ flagged (codes "--prove") prove
+
+-- a part in each place among others, and parts in each order
+
+abbrev pub placed : Part → List Part → List (List Part)
+placed p [] = (p ∷ []) ∷ []
+placed p (q ∷ qs) = (p ∷ q ∷ qs) ∷ map (λ rs. q ∷ rs) (placed p qs)
+
+abbrev pub orders : List Part → List (List Part)
+orders [] = [] ∷ []
+orders (p ∷ ps) = flat_map (placed p) (orders ps)
+
+-- the words of a subcommand with such parts behind it
+abbrev pub line : (program name : Text) → List Part → List Text
+line program name parts = program ∷ name ∷ flat_map (λ p. p) parts
+
 pub data IsForm (program : Text) : List Text → Asked → Type 0 where
-  prove : (file : Text) → is_operand file ≡ true → IsForm program (program ∷ codes "prove" ∷ file ∷ []) (Prove file usual_moves false)
-  prove_more : (file : Text) → is_operand file ≡ true → IsForm program (program ∷ codes "prove" ∷ file ∷ codes "--more" ∷ []) (Prove file usual_moves true)
-  more_prove : (file : Text) → is_operand file ≡ true → IsForm program (program ∷ codes "prove" ∷ codes "--more" ∷ file ∷ []) (Prove file usual_moves true)
-  prove_moves : (file : Text) (n : ℕ) → is_operand file ≡ true → n ≤ most_moves → IsForm program (program ∷ codes "prove" ∷ file ∷ codes "--moves" ∷ decimal n ∷ []) (Prove file n false)
-  moves_prove : (file : Text) (n : ℕ) → is_operand file ≡ true → n ≤ most_moves → IsForm program (program ∷ codes "prove" ∷ codes "--moves" ∷ decimal n ∷ file ∷ []) (Prove file n false)
-  prove_moves_more : (file : Text) (n : ℕ) → is_operand file ≡ true → n ≤ most_moves → IsForm program (program ∷ codes "prove" ∷ file ∷ codes "--moves" ∷ decimal n ∷ codes "--more" ∷ []) (Prove file n true)
-  prove_more_moves : (file : Text) (n : ℕ) → is_operand file ≡ true → n ≤ most_moves → IsForm program (program ∷ codes "prove" ∷ file ∷ codes "--more" ∷ codes "--moves" ∷ decimal n ∷ []) (Prove file n true)
-  moves_prove_more : (file : Text) (n : ℕ) → is_operand file ≡ true → n ≤ most_moves → IsForm program (program ∷ codes "prove" ∷ codes "--moves" ∷ decimal n ∷ file ∷ codes "--more" ∷ []) (Prove file n true)
-  moves_more_prove : (file : Text) (n : ℕ) → is_operand file ≡ true → n ≤ most_moves → IsForm program (program ∷ codes "prove" ∷ codes "--moves" ∷ decimal n ∷ codes "--more" ∷ file ∷ []) (Prove file n true)
-  more_prove_moves : (file : Text) (n : ℕ) → is_operand file ≡ true → n ≤ most_moves → IsForm program (program ∷ codes "prove" ∷ codes "--more" ∷ file ∷ codes "--moves" ∷ decimal n ∷ []) (Prove file n true)
-  more_moves_prove : (file : Text) (n : ℕ) → is_operand file ≡ true → n ≤ most_moves → IsForm program (program ∷ codes "prove" ∷ codes "--more" ∷ codes "--moves" ∷ decimal n ∷ file ∷ []) (Prove file n true)
-  games : (file : Text) → is_operand file ≡ true → IsForm program (program ∷ codes "games" ∷ file ∷ []) (Games file)
-  sample : (n : ℕ) → 1 ≤ n → n ≤ most_samples → IsForm program (program ∷ codes "sample" ∷ decimal n ∷ []) (Sample n false)
-  sample_prove : (n : ℕ) → 1 ≤ n → n ≤ most_samples → IsForm program (program ∷ codes "sample" ∷ decimal n ∷ codes "--prove" ∷ []) (Sample n true)
-  prove_sample : (n : ℕ) → 1 ≤ n → n ≤ most_samples → IsForm program (program ∷ codes "sample" ∷ codes "--prove" ∷ decimal n ∷ []) (Sample n true)
+  prove : (file : Text) (moves : Option ℕ) (more : Bool) (library : Option Text) (parts : List Part)
+      → is_operand file ≡ true → IfSome moves (λ n. n ≤ most_moves) → IfSome library (λ name. is_operand name ≡ true)
+      → Contains (orders (prove_parts file moves more library)) parts → IsForm program (line program (codes "prove") parts) (Prove file (unwrap_or moves usual_moves) more library)
+  games : (file : Text) (library : Option Text) (parts : List Part)
+      → is_operand file ≡ true → IfSome library (λ name. is_operand name ≡ true)
+      → Contains (orders (games_parts file library)) parts → IsForm program (line program (codes "games") parts) (Games file library)
+  sample : (n : ℕ) (prove : Bool) (parts : List Part)
+      → 1 ≤ n → n ≤ most_samples → Contains (orders (sample_parts n prove)) parts → IsForm program (line program (codes "sample") parts) (Sample n prove)

@@ -1,5 +1,5 @@
 -- What words ask for. This profile's own.
-use Rattle.std.specs.Prelude.{ℕ, ◌&&◌, ◌==◌, not, Bool, false, List, length, nat_le, Option, Some, None, codes, if◌then◌else◌, option_and_then, option_map}
+use Rattle.std.specs.Prelude.{ℕ, ◌&&◌, ◌==◌, Bool, false, List, length, nat_le, Option, Some, None, codes, if◌then◌else◌, option_and_then, option_map}
 use Rattle.std.specs.Fmt.{decimal}
 use Rattle.std.specs.Str.{bytes_eq}
 use Rattle.std.specs.Str.Parse.{digits_value}
@@ -22,6 +22,11 @@ abbrev pub moves_in : Option Text → Option ℕ
 moves_in None = Some usual_moves
 moves_in (Some text) = number_in 0 most_moves text
 
+-- a library has such a name, or there is none
+abbrev pub library_in : Option Text → Option (Option Text)
+library_in None = Some None
+library_in (Some name) = option_map (λ n. Some n) (file_in (Some name))
+
 -- whether a flag was given
 abbrev pub is_set : Option Text → Bool
 is_set None = false
@@ -29,19 +34,20 @@ is_set (Some text) = bytes_eq text (codes "true")
 
 -- what a subcommand asks for, by its name and by what stands behind it
 
-abbrev pub prove_asked : (file moves more : Option Text) → Option Asked
-prove_asked file moves more = option_and_then (λ name. option_map (λ n. Prove name n (is_set more)) (moves_in moves)) (file_in file)
+abbrev pub prove_asked : (file moves more library : Option Text) → Option Asked
+prove_asked file moves more library =
+    option_and_then (λ name. option_and_then (λ n. option_map (λ l. Prove name n (is_set more) l) (library_in library)) (moves_in moves)) (file_in file)
 
-abbrev pub games_asked : (file : Option Text) → Option Asked
-games_asked file = option_map (λ name. Games name) (file_in file)
+abbrev pub games_asked : (file library : Option Text) → Option Asked
+games_asked file library = option_and_then (λ name. option_map (λ l. Games name l) (library_in library)) (file_in file)
 
 abbrev pub sample_asked : (number prove : Option Text) → Option Asked
 sample_asked number prove = option_map (λ n. Sample n (is_set prove)) (option_and_then (number_in 1 most_samples) number)
 
 abbrev pub asked_by : Text → List Row → Option Asked
 asked_by name rows =
-    if bytes_eq name (codes "prove") then prove_asked (first_of (codes "file") rows) (first_of (codes "moves") rows) (first_of (codes "more") rows)
-    else (if bytes_eq name (codes "games") then games_asked (first_of (codes "file") rows)
+    if bytes_eq name (codes "prove") then prove_asked (first_of (codes "file") rows) (first_of (codes "moves") rows) (first_of (codes "more") rows) (first_of (codes "lib") rows)
+    else (if bytes_eq name (codes "games") then games_asked (first_of (codes "file") rows) (first_of (codes "lib") rows)
     else sample_asked (first_of (codes "number") rows) (first_of (codes "prove") rows))
 
 -- What words ask for: what `clap` takes, with a file that has a name, and with numbers in their ranges.
@@ -50,6 +56,6 @@ command_read words = option_and_then (λ p. asked_by p.0 p.1) (taken words)
 
 -- the same of what was read
 abbrev pub asked_of : Request → Asked
-asked_of (request.Prove file moves more) = Prove file.now moves more
-asked_of (request.Games file) = Games file.now
+asked_of (request.Prove file moves more library) = Prove file.now moves more (option_map (λ l. l.now) library)
+asked_of (request.Games file library) = Games file.now (option_map (λ l. l.now) library)
 asked_of (request.Sample number prove) = Sample number prove

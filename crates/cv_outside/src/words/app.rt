@@ -1,7 +1,7 @@
 ghost use Rattle.std.specs.Prelude.{◌≡◌, IfOk, codes, false};
 ghost use Rattle.clap.specs.Simple.{on_top};
 ghost use Rattle.clap.specs.Words.{app_of, new_app, rule_of};
-ghost use Rattle.cv_outside.specs.words.Clap.{cv_app, file_rule, more_rule, moves_rule, number_rule, prove_rule, quiet};
+ghost use Rattle.cv_outside.specs.words.Clap.{cv_app, file_rule, lib_rule, more_rule, moves_rule, number_rule, prove_rule, quiet};
 
 use clap::{Arg, ArgAction, Command};
 use std::alloc::{AllocError, Global};
@@ -40,6 +40,14 @@ fn more_arg<'a>(alloc: Global) -> Arg<'a>
         .action(ArgAction::SetTrue)
 }
 
+/// The option that names a library.
+fn lib_arg<'a>(alloc: Global) -> Arg<'a>
+    ensures rule { rule_of result ≡ lib_rule }
+    ensures local { result.global ≡ false }
+{
+    Arg::new(alloc, "lib").long("lib")
+}
+
 /// The flag that asks for a proof of a sample.
 fn prove_arg<'a>(alloc: Global) -> Arg<'a>
     ensures rule { rule_of result ≡ prove_rule }
@@ -61,19 +69,23 @@ fn quiet_command<'a>(alloc: Global) -> Command<'a>
         .subcommand_required(true)
 }
 
-/// The program's command line: `prove FILE [--moves N] [--more]`, `games FILE` or `sample N [--prove]`.
+/// The program's command line: `prove FILE [--moves N] [--more] [--lib LIB]`, `games FILE [--lib LIB]` or
+/// `sample N [--prove]`.
 pub(crate) fn cv_command<'a>(alloc: Global) -> Result<Command<'a>, AllocError>
     ensures { IfOk result (λ c. app_of c ≡ cv_app) }
 {
     let file = file_arg(alloc);
     let moves = moves_arg(alloc);
     let more = more_arg(alloc);
+    let lib = lib_arg(alloc);
     let prove = Command::new(alloc, "prove")
         .arg(file)?
         .arg(moves)?
-        .arg(more)?;
+        .arg(more)?
+        .arg(lib)?;
     let shown = file_arg(alloc);
-    let games = Command::new(alloc, "games").arg(shown)?;
+    let used = lib_arg(alloc);
+    let games = Command::new(alloc, "games").arg(shown)?.arg(used)?;
     let number = number_arg(alloc);
     let flag = prove_arg(alloc);
     let sample = Command::new(alloc, "sample").arg(number)?.arg(flag)?;

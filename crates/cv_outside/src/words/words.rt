@@ -3,7 +3,7 @@ ghost use Rattle.std.specs.Fmt.{decimal};
 ghost use Rattle.std.specs.Str.{bytes_eq};
 ghost use Rattle.clap.specs.Words.{first_of, found_of, rows_of, subcommand_rows_of};
 ghost use Rattle.cv_outside.specs.words.Clap.{taken};
-ghost use Rattle.cv_outside.specs.words.Words.{asked_by, asked_of, command_read, file_in, games_asked, is_set as set, moves_in, number_in as number_of, prove_asked, sample_asked};
+ghost use Rattle.cv_outside.specs.words.Words.{asked_by, asked_of, command_read, file_in, games_asked, is_set as set, library_in, moves_in, number_in as number_of, prove_asked, sample_asked};
 
 use crate::words::app::cv_command;
 use clap::ArgMatches;
@@ -27,10 +27,12 @@ pub enum Request<'a> {
         file: &'a str,
         moves: u32,
         more: bool,
+        library: Option<&'a str>,
     },
     /// The games of a file's proof block, without verdicts.
     Games {
         file: &'a str,
+        library: Option<&'a str>,
     },
     /// The text of the sample of a number, or a proof of its queries.
     Sample {
@@ -90,6 +92,17 @@ fn file<'a>(matches: &ArgMatches<'a>) -> Option<&'a str>
     }
 }
 
+/// The name of a library, where it isn't empty, or none.
+fn library<'a>(matches: &ArgMatches<'a>) -> Option<Option<&'a str>>
+    ensures { option_map (λ l. option_map (λ s. s.now) l) result
+        ≡ library_in (first_of (codes "lib") (rows_of (found_of matches.now))) }
+{
+    match given(matches, "lib") {
+        Some(name) if name.is_empty() => None,
+        named => Some(named),
+    }
+}
+
 /// How many moves a proof may have.
 fn moves(alloc: Global, matches: &ArgMatches<'_>) -> Result<Option<u32>, AllocError>
     ensures { IfOk result (λ n. n
@@ -119,28 +132,35 @@ fn prove_request<'a>(
     ensures { IfOk result (λ r. option_map asked_of r
         ≡ prove_asked (first_of (codes "file") (rows_of (found_of matches.now)))
         (first_of (codes "moves") (rows_of (found_of matches.now)))
-        (first_of (codes "more") (rows_of (found_of matches.now)))) }
+        (first_of (codes "more") (rows_of (found_of matches.now)))
+        (first_of (codes "lib") (rows_of (found_of matches.now)))) }
 {
     let Some(file) = file(matches) else {
         return Ok(None);
     };
-    match moves(alloc, matches)? {
-        Some(moves) => Ok(Some(Request::Prove {
-            file,
-            moves,
-            more: is_set(matches, "more"),
-        })),
-        None => Ok(None),
-    }
+    let Some(moves) = moves(alloc, matches)? else {
+        return Ok(None);
+    };
+    let Some(library) = library(matches) else {
+        return Ok(None);
+    };
+    Ok(Some(Request::Prove {
+        file,
+        moves,
+        more: is_set(matches, "more"),
+        library,
+    }))
 }
 
 /// What `games` asks for.
 fn games_request<'a>(matches: &ArgMatches<'a>) -> Option<Request<'a>>
     ensures { option_map asked_of result
-        ≡ games_asked (first_of (codes "file") (rows_of (found_of matches.now))) }
+        ≡ games_asked (first_of (codes "file") (rows_of (found_of matches.now)))
+        (first_of (codes "lib") (rows_of (found_of matches.now))) }
 {
-    match file(matches) {
-        Some(file) => Some(Request::Games { file }),
+    let file = file(matches)?;
+    match library(matches) {
+        Some(library) => Some(Request::Games { file, library }),
         None => None,
     }
 }

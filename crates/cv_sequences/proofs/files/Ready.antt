@@ -3,7 +3,6 @@ use Rattle.std.proofs.Common.{◌≡◌, ℕ, suc, ◌≤◌, ◌==◌, Bool, tr
 use Rattle.std.specs.Prelude.{Contains}
 use Rattle.std.specs.List.{AllByRecursion}
 use Rattle.std.proofs.lemmas.Bool.{both_ways}
-use Rattle.cv_lex.proofs.Exact.{said as lexed_said}
 use Rattle.cv_syntax_trees.specs.Declarations.{Declaration, Equation, Equiv, Named, Query}
 use Rattle.cv_syntax_trees.specs.Tree.{Tree, second}
 use Rattle.cv_parse_notation.specs.declared.sign.Sign.{Sign}
@@ -19,7 +18,8 @@ use Rattle.cv_parse_sorts.proofs.NamedGames.{functions_and_cells_named}
 use Rattle.cv_parse_sorts.proofs.TypedRuns.{last_typed}
 use Rattle.cv_accept.specs.Accepted.{Content, IsFile, read_of, most_pool, most_bytes}
 use Rattle.cv_accept.proofs.Blocks.{few_names}
-use Rattle.cv_accept.proofs.Lengths.{few_tokens}
+use Rattle.cv_library.specs.Givens.{Given}
+use Rattle.cv_library.proofs.Lengths.{few_given}
 use Rattle.cv_accept.proofs.Readings.{accepted, read_is_file}
 use Rattle.cv_meaning.specs.Advantage.{IsAsked}
 use Rattle.cv_meaning.specs.Experiments.{Experiment, mode_of}
@@ -118,9 +118,9 @@ declared (Named x c a r ∷ ds) y t e = declared_later ds (Named x c a r) t (dec
 declared (Equation u ∷ ds) y t e = declared_later ds (Equation u) t (declared ds y t e)
 declared (Query u ∷ ds) y t e = declared_later ds (Query u) t (declared ds y t e)
 
-module _ (bytes : List ℕ) (c : Content) (reads : read_of most_pool bytes ≡ Ok c) where
-  pub file : IsFile most_pool bytes c
-  file = read_is_file most_pool bytes c reads
+module _ (source : Given) (c : Content) (reads : read_of most_pool source ≡ Ok c) where
+  pub file : IsFile most_pool source c
+  file = read_is_file most_pool source c reads
 
   parses : parsed most_pool (signs_of file.tokens).signs ≡ Ok file.said
   parses = says_is_said most_pool (signs_of file.tokens).signs file.said file.says
@@ -161,10 +161,10 @@ module _ (bytes : List ℕ) (c : Content) (reads : read_of most_pool bytes ≡ O
   -- the choices of its game have values in the experiments for which its queries ask
   pub valued : IsReady c.declarations c.game → (i : Interpretation) → Satisfies c.declarations i → (x : Experiment) → IsAsked (queries_in c.declarations) x → HasValuesIn (setting_of c.declarations i) (mode_of x) c.game
   valued w =
-      let a = accepted most_pool bytes c reads in
+      let a = accepted most_pool source c reads in
       choices_valued c.declarations c.game w.formed.phrase a.typed w.sorts a.asked
 
-  pub file_of : (holds : (ds : List Declaration) → DerivationsHold ds) (unreached : (ds : List Declaration) → DerivedBodiesAreUnreached ds) → length bytes ≤ most_bytes → IsFileOf c.declarations c.own c.game
+  pub file_of : (holds : (ds : List Declaration) → DerivationsHold ds) (unreached : (ds : List Declaration) → DerivedBodiesAreUnreached ds) → length source.bytes ≤ most_bytes → IsFileOf c.declarations c.own c.game
   file_of holds unreached few = record {
     ready = as_said (λ ds own game. IsReady ds game) (game_ready most_pool (signs_of file.tokens).signs file.said parses file.typed file.scoped);
     constants = as_said (λ ds own game. HasConstants ds) (constants_declared most_pool (signs_of file.tokens).signs file.said parses);
@@ -173,7 +173,7 @@ module _ (bytes : List ℕ) (c : Content) (reads : read_of most_pool bytes ≡ O
     known_queries = as_said (λ ds own game. KnowsQueries (file_scene ds own game)) (queries_known most_pool file.tokens file.said file.says);
     known_constants = as_said (λ ds own game. KnowsConstants (file_scene ds own game)) (constants_known most_pool file.tokens file.said file.says);
     names = as_said (λ ds own game. own ≤ first_answer) (
-        let t = few_tokens bytes file.tokens (lexed_said bytes (Ok file.tokens) file.lexed) in
+        let t = few_given source file.tokens few file.lexed in
         let n = few_names file.tokens in
         omega arith
         );

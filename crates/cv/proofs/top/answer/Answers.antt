@@ -1,26 +1,21 @@
-use Rattle.std.proofs.Common.{◌≡◌, ◌≤◌, ℕ, List, Option, Result, Some, Err, ap, sym, ◌∙◌, subst, length}
+use Rattle.std.proofs.Common.{Result, Some, Err, ap, sym, ◌∙◌, subst}
 use Rattle.std.specs.Prelude.{◌≢◌, IfSome}
-use Rattle.std.specs.declared.alloc.Global.{Global}
-use Rattle.std.specs.declared.vec.Vec.{Vec}
+use Rattle.cv_library.specs.Givens.{Given}
 use Rattle.cv_outside.specs.declared.shelf.FetchError.{FetchError}
 use Rattle.cv_report.specs.declared.report.Command.{Command}
 use Rattle.cv_report.specs.declared.report.Status.{Status}
 use Rattle.cv_report.specs.declared.report.Status.TheVariants as status
-use Rattle.cv_accept.specs.Accepted.{most_bytes}
 use Rattle.cv_outside.specs.words.Words.{asked_of}
 use Rattle.cv.specs.Answers.{IsComplete}
 use Rattle.cv.specs.Causes.{ComesFrom}
-use Rattle.cv.specs.Words.{AreTold, bytes_asked, command_of}
+use Rattle.cv.specs.Words.{command_of, source_asked}
+use Rattle.cv.specs.declared.asked.Fetched.{Fetched}
 use Rattle.cv.proofs.Endings.{close_without, fetch_answers, fetch_cause, fetch_complete, fetch_never, judged_complete, judged_speaks, calls_without, sound_without, speaks_never, steps_without}
 use Rattle.cv.proofs.top.answer.Goals as goal
 
 -- an error as an answer
-abbrev error : FetchError → Result (Vec ℕ Global) FetchError
+abbrev error : FetchError → Result Fetched FetchError
 error x = Err x
-
--- told bytes, as the slice that is judged
-told_slice : (told : Option (List ℕ)) (slice items : List ℕ) → slice ≡ items → AreTold told items → AreTold told slice
-told_slice told slice items e h = subst (AreTold told) (sym e) h
 
 pub returns-in-Ok-clause-command : goal.returns-in-Ok-clause-command
 returns-in-Ok-clause-command g c = c.judge.ensures.command ∙ c.command_of-command.ensures
@@ -29,16 +24,15 @@ pub returns-in-Ok-clause-never : goal.returns-in-Ok-clause-never
 returns-in-Ok-clause-never g c = speaks_never _ (judged_speaks _ _ _ c.judge.ensures.judged)
 
 pub returns-in-Ok-clause-answers : goal.returns-in-Ok-clause-answers
-returns-in-Ok-clause-answers g c = c.judge.ensures.answers _ (told_slice _ _ _ c.deref.ensures.value c.in-Ok.ensures.told)
+returns-in-Ok-clause-answers g c = c.judge.ensures.answers _ c.in-Ok.ensures.told
 
 pub returns-in-Ok-clause-cause : goal.returns-in-Ok-clause-cause
-returns-in-Ok-clause-cause g c = c.judge.ensures.cause _ (told_slice _ _ _ c.deref.ensures.value c.in-Ok.ensures.told)
+returns-in-Ok-clause-cause g c = c.judge.ensures.cause _ c.in-Ok.ensures.told
 
 pub returns-in-Ok-clause-complete : goal.returns-in-Ok-clause-complete
 returns-in-Ok-clause-complete g c = λ quiet.
-    subst (λ (k : Command). IfSome (bytes_asked (g.F.Shelf.told c.args.shelf.now) (Some (asked_of c.args.request))) (λ (b : List ℕ). IsComplete k b c.judge.result.status)) c.command_of-command.ensures
-    (judged_complete _ _ _ _ (told_slice _ _ _ c.deref.ensures.value c.in-Ok.ensures.told)
-    (subst (λ (l : List ℕ). length l ≤ most_bytes) (sym c.deref.ensures.value) c.in-Ok.ensures.few) c.judge.ensures.judged)
+    subst (λ (k : Command). IfSome (source_asked (g.F.Shelf.told c.args.shelf.now) (Some (asked_of c.args.request))) (λ (b : Given). IsComplete k b c.judge.result.status)) c.command_of-command.ensures
+    (judged_complete _ _ _ _ c.in-Ok.ensures.told c.in-Ok.ensures.few c.judge.ensures.judged)
 
 pub returns-in-Err-clause-sound : goal.returns-in-Err-clause-sound
 returns-in-Err-clause-sound g c = sound_without c.refused.result c.refused.ensures.file
@@ -68,5 +62,5 @@ returns-in-Err-clause-cause g c =
 
 pub returns-in-Err-clause-complete : goal.returns-in-Err-clause-complete
 returns-in-Err-clause-complete g c = λ quiet.
-    subst (λ (s : Status). IfSome (bytes_asked (g.F.Shelf.told c.args.shelf.now) (Some (asked_of c.args.request))) (λ (b : List ℕ). IsComplete (command_of (Some (asked_of c.args.request))) b s)) (sym (c.refused.ensures.status ∙ c.fetch_status.ensures))
-    (fetch_complete (command_of (Some (asked_of c.args.request))) (bytes_asked (g.F.Shelf.told c.args.shelf.now) (Some (asked_of c.args.request))) c.in-Err.fault _ _ (λ e. c.in-Err.ensures.failed (ap error e)) (λ e. c.in-Err.ensures.long (ap error e)) quiet)
+    subst (λ (s : Status). IfSome (source_asked (g.F.Shelf.told c.args.shelf.now) (Some (asked_of c.args.request))) (λ (b : Given). IsComplete (command_of (Some (asked_of c.args.request))) b s)) (sym (c.refused.ensures.status ∙ c.fetch_status.ensures))
+    (fetch_complete (command_of (Some (asked_of c.args.request))) (source_asked (g.F.Shelf.told c.args.shelf.now) (Some (asked_of c.args.request))) c.in-Err.fault _ _ (λ e. c.in-Err.ensures.failed (ap error e)) (λ e. c.in-Err.ensures.long (ap error e)) quiet)

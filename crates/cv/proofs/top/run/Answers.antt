@@ -1,5 +1,5 @@
 use Rattle.cv_syntax_trees.proofs.lists.Options.{IfSome_weaker}
-use Rattle.cv.specs.Words.{asked_by, bytes_asked, command_of}
+use Rattle.cv.specs.Words.{asked_by, source_asked, command_of}
 use Rattle.cv.proofs.Endings.{ends_well}
 use Rattle.cv.proofs.Writing.{by_sink, ends_either, kept_answers, kept_calls, kept_cause, kept_close, kept_complete, kept_sound, kept_steps, kept_words}
 use Rattle.cv.proofs.top.run.Goals as goal
@@ -27,13 +27,13 @@ returns-clause-cause g c = kept_cause _ _ _ c.write.ensures.kept c.decide-report
 
 pub returns-clause-complete : goal.returns-clause-complete
 returns-clause-complete g c = λ quiet.
-    IfSome_weaker _ _ (bytes_asked (g.F.Shelf.told c.args.shelf.now) (asked_by c.args.words.now))
-    (λ bytes done. kept_complete (command_of (asked_by c.args.words.now)) bytes _ _ c.write.ensures.kept done) (c.decide-report.ensures.complete quiet)
+    IfSome_weaker _ _ (source_asked (g.F.Shelf.told c.args.shelf.now) (asked_by c.args.words.now))
+    (λ source done. kept_complete (command_of (asked_by c.args.words.now)) source _ _ c.write.ensures.kept done) (c.decide-report.ensures.complete quiet)
 
 pub returns-clause-good : goal.returns-clause-good
 returns-clause-good g c = λ quiet still.
-    IfSome_weaker _ _ (bytes_asked (g.F.Shelf.told c.args.shelf.now) (asked_by c.args.words.now))
-    (λ bytes done good. ends_well (command_of (asked_by c.args.words.now)) _ _ bytes (kept_complete (command_of (asked_by c.args.words.now)) bytes _ _ c.write.ensures.kept done) good (ends_either _ _ _ c.write.ensures.status) (λ w. still (by_sink _ _ _ _ c.write.ensures.kept c.decide-report.ensures.never c.write.ensures.status w))) (c.decide-report.ensures.complete quiet)
+    IfSome_weaker _ _ (source_asked (g.F.Shelf.told c.args.shelf.now) (asked_by c.args.words.now))
+    (λ source done good. ends_well (command_of (asked_by c.args.words.now)) _ _ source (kept_complete (command_of (asked_by c.args.words.now)) source _ _ c.write.ensures.kept done) good (ends_either _ _ _ c.write.ensures.status) (λ w. still (by_sink _ _ _ _ c.write.ensures.kept c.decide-report.ensures.never c.write.ensures.status w))) (c.decide-report.ensures.complete quiet)
 
 pub returns-clause-written : goal.returns-clause-written
 returns-clause-written g c = record { front = c.write.ensures.front; all = c.write.ensures.all }

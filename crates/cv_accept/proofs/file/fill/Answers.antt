@@ -1,4 +1,5 @@
 use Rattle.std.proofs.Common.{ap, arith, subst, sym, ◌≤◌, ◌∙◌, length, Ok, Err, All}
+use Rattle.std.specs.Prelude.{option_map}
 use Rattle.cv_parse_tables.specs.terminals.Signs.{signs_of}
 use Rattle.cv_syntax_trees.specs.Tree.{size}
 use Rattle.cv_parse.specs.Declaring.{IsBelow}
@@ -9,33 +10,39 @@ use Rattle.cv_scope_rules.specs.Scope.{first_scope_fault}
 use Rattle.cv_accept.specs.Accepted.{content_of}
 use Rattle.cv_accept.specs.Places.{behind}
 use Rattle.cv_accept.proofs.Blocks.{below_grown, block_as, content_same, few_names, held_grown, root_grown}
-use Rattle.cv_accept.proofs.Lengths.{few_tokens}
+use Rattle.cv_library.specs.Givens.{given_by}
+use Rattle.cv_library.proofs.Givens.{computed}
+use Rattle.cv_library.proofs.Lengths.{few_given}
 use Rattle.cv_accept.proofs.Places.{none_behind, process_begins}
 use Rattle.cv_accept.proofs.Readings.{all_reads, block_refuses, block_within, by_block, by_groups, by_scope, by_types, grammar_refuses, group_refuses, lexis_refuses, query_refuses, reads_on, scope_refuses, types_refuse}
-use Rattle.cv_accept.proofs.Tokens.{are_tokens}
 use Rattle.cv_accept.proofs.Weights.{few_terms}
 use Rattle.cv_accept.proofs.file.fill.Goals as goal
 
 pub returns-in_err-tokens-clause-reads : goal.returns-in_err-tokens-clause-reads
-returns-in_err-tokens-clause-reads c = reads_on c.args.work.now.pool.limit c.args.bytes.now c.args.work.now _ _ c.from_residual.ensures.1 (lexis_refuses c.args.work.now.pool.limit c.args.bytes.now _ c.in_err-tokens.ensures.err)
+returns-in_err-tokens-clause-reads c = reads_on c.args.work.now.pool.limit (given_by c.args.bytes.now (option_map (λ more. more.now) c.args.library)) c.args.work.now _ _ c.from_residual.ensures.1 (lexis_refuses c.args.work.now.pool.limit (given_by c.args.bytes.now (option_map (λ more. more.now) c.args.library)) _ c.in_err-tokens.ensures.err)
 
 pub returns-in_err-file-clause-reads : goal.returns-in_err-file-clause-reads
-returns-in_err-file-clause-reads c = reads_on c.args.work.now.pool.limit c.args.bytes.now c.file.new.work _ _ c.from_residual-in_err-file.ensures.1 (grammar_refuses c.args.work.now.pool.limit c.args.bytes.now _ _ c.in_ok-tokens.ensures.ok c.in_err-file.ensures.parses)
+returns-in_err-file-clause-reads c = reads_on c.args.work.now.pool.limit (given_by c.args.bytes.now (option_map (λ more. more.now) c.args.library)) c.file.new.work _ _ c.from_residual-in_err-file.ensures.1 (grammar_refuses c.args.work.now.pool.limit (given_by c.args.bytes.now (option_map (λ more. more.now) c.args.library)) _ _ c.in_ok-tokens.ensures.ok c.in_err-file.ensures.parses)
+
+pub file-requires-clause-few : goal.file-requires-clause-few
+file-requires-clause-few c =
+    let tokens = few_given (given_by c.args.bytes.now (option_map (λ more. more.now) c.args.library)) c.in_ok-tokens.tokens c.requires.few (computed (given_by c.args.bytes.now (option_map (λ more. more.now) c.args.library)) c.in_ok-tokens.tokens c.in_ok-tokens.ensures.ok) in
+    omega arith
 
 pub read_block-requires-clause-within : goal.read_block-requires-clause-within
-read_block-requires-clause-within c = block_within c.args.work.now.pool.limit _ _ (are_tokens c.args.bytes.now _ c.in_ok-tokens.ensures.ok) c.in_ok-file.ensures.parses
+read_block-requires-clause-within c = block_within c.args.work.now.pool.limit _ _ c.len-tokens.ensures.tokens c.in_ok-file.ensures.parses
 
 pub read_block-requires-clause-few : goal.read_block-requires-clause-few
 read_block-requires-clause-few c =
     let few = few_names c.in_ok-tokens.tokens in
-    let tokens = few_tokens c.args.bytes.now c.in_ok-tokens.tokens c.in_ok-tokens.ensures.ok in
+    let tokens = few_given (given_by c.args.bytes.now (option_map (λ more. more.now) c.args.library)) c.in_ok-tokens.tokens c.requires.few (computed (given_by c.args.bytes.now (option_map (λ more. more.now) c.args.library)) c.in_ok-tokens.tokens c.in_ok-tokens.ensures.ok) in
     let same = ap length c.in_ok-file.ensures.names in
     omega (arith, few, tokens, same, c.requires.few)
 
 pub returns-in_err-script-clause-reads : goal.returns-in_err-script-clause-reads
 returns-in_err-script-clause-reads c =
     let limit = c.args.work.now.pool.limit in
-    let bs = c.args.bytes.now in
+    let bs = given_by c.args.bytes.now (option_map (λ more. more.now) c.args.library) in
     let f = c.in_ok-file.file in
     let ts = c.in_ok-tokens.tokens in
     let old = c.file.new.work in
@@ -77,7 +84,7 @@ returns-clause-below c =
 pub check-requires-clause-fits : goal.check-requires-clause-fits
 check-requires-clause-fits c =
     let limit = c.args.work.now.pool.limit in
-    let bs = c.args.bytes.now in
+    let bs = given_by c.args.bytes.now (option_map (λ more. more.now) c.args.library) in
     let ts = c.in_ok-tokens.tokens in
     let f = c.in_ok-file.file in
     let old = c.file.new.work in
@@ -90,7 +97,7 @@ check-requires-clause-fits c =
 pub check_game-requires-clause-fits : goal.check_game-requires-clause-fits
 check_game-requires-clause-fits c =
     let limit = c.args.work.now.pool.limit in
-    let bs = c.args.bytes.now in
+    let bs = given_by c.args.bytes.now (option_map (λ more. more.now) c.args.library) in
     let ts = c.in_ok-tokens.tokens in
     let f = c.in_ok-file.file in
     let old = c.file.new.work in
@@ -104,7 +111,7 @@ check_game-requires-clause-fits c =
 pub returns-in_err-nodes-clause-reads : goal.returns-in_err-nodes-clause-reads
 returns-in_err-nodes-clause-reads c =
     let limit = c.args.work.now.pool.limit in
-    let bs = c.args.bytes.now in
+    let bs = given_by c.args.bytes.now (option_map (λ more. more.now) c.args.library) in
     let ts = c.in_ok-tokens.tokens in
     let f = c.in_ok-file.file in
     let old = c.file.new.work in
@@ -120,7 +127,7 @@ returns-in_err-nodes-clause-reads c =
 pub returns-in_err-directory-2-clause-reads : goal.returns-in_err-directory-2-clause-reads
 returns-in_err-directory-2-clause-reads c =
     let limit = c.args.work.now.pool.limit in
-    let bs = c.args.bytes.now in
+    let bs = given_by c.args.bytes.now (option_map (λ more. more.now) c.args.library) in
     let ts = c.in_ok-tokens.tokens in
     let f = c.in_ok-file.file in
     let old = c.file.new.work in
@@ -139,7 +146,7 @@ returns-in_err-directory-2-clause-reads c =
 pub returns-in_err-check_all-clause-reads : goal.returns-in_err-check_all-clause-reads
 returns-in_err-check_all-clause-reads c =
     let limit = c.args.work.now.pool.limit in
-    let bs = c.args.bytes.now in
+    let bs = given_by c.args.bytes.now (option_map (λ more. more.now) c.args.library) in
     let ts = c.in_ok-tokens.tokens in
     let f = c.in_ok-file.file in
     let old = c.file.new.work in
@@ -157,7 +164,7 @@ returns-in_err-check_all-clause-reads c =
 pub returns-in_err-check-clause-reads : goal.returns-in_err-check-clause-reads
 returns-in_err-check-clause-reads c =
     let limit = c.args.work.now.pool.limit in
-    let bs = c.args.bytes.now in
+    let bs = given_by c.args.bytes.now (option_map (λ more. more.now) c.args.library) in
     let ts = c.in_ok-tokens.tokens in
     let f = c.in_ok-file.file in
     let old = c.file.new.work in
@@ -176,7 +183,7 @@ returns-in_err-check-clause-reads c =
 pub returns-clause-reads : goal.returns-clause-reads
 returns-clause-reads c =
     let limit = c.args.work.now.pool.limit in
-    let bs = c.args.bytes.now in
+    let bs = given_by c.args.bytes.now (option_map (λ more. more.now) c.args.library) in
     let ts = c.in_ok-tokens.tokens in
     let f = c.in_ok-file.file in
     let old = c.file.new.work in
@@ -205,7 +212,7 @@ returns-clause-fits c =
 pub returns-clause-nodes : goal.returns-clause-nodes
 returns-clause-nodes c =
     let limit = c.args.work.now.pool.limit in
-    let bs = c.args.bytes.now in
+    let bs = given_by c.args.bytes.now (option_map (λ more. more.now) c.args.library) in
     let ts = c.in_ok-tokens.tokens in
     let f = c.in_ok-file.file in
     let old = c.file.new.work in

@@ -1,0 +1,12 @@
+pub mod Lists
+pub mod HeadWalk
+pub mod Placing
+pub mod Tabling
+pub mod UseWalk
+pub mod Adding
+pub mod Renaming
+pub mod Finding
+pub mod Expanding
+pub mod Givens
+pub mod Lengths
+pub mod Putting

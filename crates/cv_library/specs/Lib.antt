@@ -1,0 +1,10 @@
+pub mod Words
+pub mod Heads
+pub mod Libraries
+pub mod Uses
+pub mod Expansions
+pub mod Givens
+pub mod Places
+pub mod Tables
+pub mod Views
+pub mod Written
