@@ -39,9 +39,19 @@ less_first : (bs : List ℕ) → FirstIs bs 60
 less_first [] = refl
 less_first (b ∷ bs) =
     elim (cases_Bool (b == 61)) [
-      | inl e ↦ elim (cases_Bool (b == 62)) [ inl f ↦ simp (e, f) | inr f ↦ simp (e, f) ]
-      | inr e ↦ elim (cases_Bool (b == 62)) [ inl f ↦ simp (e, f) | inr f ↦ simp (e, f) ]
+      | inl e ↦ elim (cases_Bool (b == 62)) [
+        | inl f ↦ elim (cases_Bool (b == 45)) [ inl g ↦ simp (e, f, g) | inr g ↦ simp (e, f, g) ]
+        | inr f ↦ elim (cases_Bool (b == 45)) [ inl g ↦ simp (e, f, g) | inr g ↦ simp (e, f, g) ]
+      ]
+      | inr e ↦ elim (cases_Bool (b == 62)) [
+        | inl f ↦ elim (cases_Bool (b == 45)) [ inl g ↦ simp (e, f, g) | inr g ↦ simp (e, f, g) ]
+        | inr f ↦ elim (cases_Bool (b == 45)) [ inl g ↦ simp (e, f, g) | inr g ↦ simp (e, f, g) ]
+      ]
     ]
+
+colon_first : (bs : List ℕ) → FirstIs bs 58
+colon_first [] = refl
+colon_first (b ∷ bs) = elim (cases_Bool (b == 61)) [ inl e ↦ simp e | inr e ↦ simp e ]
 
 minus_first : (bs : List ℕ) → FirstIs bs 45
 minus_first [] = refl
@@ -66,7 +76,7 @@ longest_first a bs =
     at (FirstIs bs) 125 a refl (λ e125.
     at (FirstIs bs) 44 a refl (λ e44.
     at (FirstIs bs) 59 a refl (λ e59.
-    at (FirstIs bs) 58 a refl (λ e58.
+    at (FirstIs bs) 58 a (colon_first bs) (λ e58.
     at (FirstIs bs) 46 a refl (λ e46.
     at (FirstIs bs) 33 a refl (λ e33.
     at (FirstIs bs) 64 a refl (λ e64.

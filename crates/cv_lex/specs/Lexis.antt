@@ -33,7 +33,7 @@ has_front (a ∷ cs) (b ∷ bs) = (b == a) && has_front cs bs
 abbrev pub symbols : List (List ℕ)
 symbols =
     codes "(" ∷ codes ")" ∷ codes "[" ∷ codes "]" ∷ codes "{" ∷ codes "}" ∷ codes "," ∷ codes ";" ∷ codes ":" ∷ codes "." ∷ codes "|" ∷ codes "!" ∷ codes "@" ∷ codes "'" ∷ codes "="
-    ∷ codes "<>" ∷ codes "<=" ∷ codes "=>" ∷ codes "==>" ∷ codes "->" ∷ codes "&&" ∷ codes "||" ∷ []
+    ∷ codes "<>" ∷ codes "<=" ∷ codes "=>" ∷ codes "==>" ∷ codes "->" ∷ codes "&&" ∷ codes "||" ∷ codes ":=" ∷ codes "<-" ∷ []
 
 -- the length of the longest of these texts at the front, or 0
 abbrev pub longest : List (List ℕ) → List ℕ → ℕ

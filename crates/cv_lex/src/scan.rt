@@ -5,7 +5,7 @@ ghost use Rattle.std.specs.List.{prefix_len};
 ghost use Rattle.std.specs.Option.{SomeIff};
 ghost use Rattle.std.specs.Char.{is_ascii_alphabetic, is_ascii_digit};
 ghost use Rattle.cv_lex.specs.Lexis.{is_blank, is_inner, value_of, comment_end, opens, closes, symbols, longest, a_symbol, a_number, a_comment, piece};
-ghost use Rattle.cv_lex.specs.Symbols.{equals_len, is_single, symbol_len};
+ghost use Rattle.cv_lex.specs.Symbols.{equals_len, is_single, less_len, symbol_len};
 
 use crate::TokenKind;
 
@@ -123,6 +123,17 @@ fn equals_len(second: u8, third: u8) -> usize
     }
 }
 
+// The length of the longest of `<>`, `<=` and `<-`, or 0, by the byte behind the first '<'.
+fn less_len(second: u8) -> usize
+    ensures { result ≡ less_len second }
+{
+    if second == b'>' || second == b'=' || second == b'-' {
+        2
+    } else {
+        0
+    }
+}
+
 // A symbol of one byte that begins no longer one.
 fn is_single(byte: u8) -> bool
     ensures { result ≡ is_single byte }
@@ -135,7 +146,6 @@ fn is_single(byte: u8) -> bool
         || byte == b'}'
         || byte == b','
         || byte == b';'
-        || byte == b':'
         || byte == b'.'
         || byte == b'!'
         || byte == b'@'
@@ -151,15 +161,13 @@ fn symbol_len(first: u8, second: u8, third: u8) -> usize
     } else if first == b'|' {
         if second == b'|' { 2 } else { 1 }
     } else if first == b'<' {
-        if second == b'>' || second == b'=' {
-            2
-        } else {
-            0
-        }
+        less_len(second)
     } else if first == b'-' {
         if second == b'>' { 2 } else { 0 }
     } else if first == b'&' {
         if second == b'&' { 2 } else { 0 }
+    } else if first == b':' {
+        if second == b'=' { 2 } else { 1 }
     } else if is_single(first) {
         1
     } else {

@@ -66,6 +66,8 @@ mark_code mark.Arrow = 57
 mark_code mark.Both = 58
 mark_code mark.Either = 59
 mark_code mark.OpenAtoms = 60
+mark_code mark.Becomes = 61
+mark_code mark.LeftArrow = 62
 
 -- all of them, by their codes
 abbrev pub every_mark : List Mark
@@ -76,7 +78,7 @@ every_mark =
     mark.Yield ∷ mark.Out ∷ mark.Defined ∷ mark.Not ∷ mark.True ∷ mark.False ∷ mark.Bool ∷ mark.Cases ∷ mark.Open ∷ mark.Close ∷
     mark.OpenSquare ∷ mark.CloseSquare ∷ mark.OpenBrace ∷ mark.CloseBrace ∷ mark.Comma ∷ mark.Semicolon ∷ mark.Colon ∷ mark.Dot ∷ mark.Bar ∷ mark.Bang ∷
     mark.At ∷ mark.Prime ∷ mark.Equal ∷ mark.Differ ∷ mark.AtMost ∷ mark.Gives ∷ mark.Implies ∷ mark.Arrow ∷ mark.Both ∷ mark.Either ∷
-    mark.OpenAtoms ∷ []
+    mark.OpenAtoms ∷ mark.Becomes ∷ mark.LeftArrow ∷ []
 
 abbrev pub mark_of : ℕ → Mark
 mark_of n = slice_index_or every_mark n mark.Proof
@@ -143,11 +145,13 @@ mark_of_code mark.Arrow = refl
 mark_of_code mark.Both = refl
 mark_of_code mark.Either = refl
 mark_of_code mark.OpenAtoms = refl
+mark_of_code mark.Becomes = refl
+mark_of_code mark.LeftArrow = refl
 
 abbrev pub same_mark : Mark → Mark → Bool
 same_mark m k = mark_code m == mark_code k
 
-pub mark_code_below : (m : Mark) → mark_code m < 61
+pub mark_code_below : (m : Mark) → mark_code m < 63
 mark_code_below mark.Proof = lit< tt
 mark_code_below mark.Process = lit< tt
 mark_code_below mark.Param = lit< tt
@@ -209,3 +213,5 @@ mark_code_below mark.Arrow = lit< tt
 mark_code_below mark.Both = lit< tt
 mark_code_below mark.Either = lit< tt
 mark_code_below mark.OpenAtoms = lit< tt
+mark_code_below mark.Becomes = lit< tt
+mark_code_below mark.LeftArrow = lit< tt

@@ -68,6 +68,10 @@ pub enum Mark {
     Either,
     /// An opening parenthesis before a right side of a query with an event in it.
     OpenAtoms,
+    /// `:=`, which no file of channels has.
+    Becomes,
+    /// `<-`, which no file of channels has.
+    LeftArrow,
 }
 
 /// A token, as the grammar sees it.
@@ -151,6 +155,8 @@ impl Mark {
             Mark::Both => 58,
             Mark::Either => 59,
             Mark::OpenAtoms => 60,
+            Mark::Becomes => 61,
+            Mark::LeftArrow => 62,
         }
     }
 }

@@ -39,7 +39,7 @@ m also rest = more (spelling m) (as_told m, found m) rest
 symbols_marked : AllMarked symbols
 symbols_marked =
     mark.Open also mark.Close also mark.OpenSquare also mark.CloseSquare also mark.OpenBrace also mark.CloseBrace also mark.Comma also mark.Semicolon also mark.Colon also mark.Dot also mark.Bar
-    also mark.Bang also mark.At also mark.Prime also mark.Equal also mark.Differ also mark.AtMost also mark.Gives also mark.Implies also mark.Arrow also mark.Both also mark.Either also no_more
+    also mark.Bang also mark.At also mark.Prime also mark.Equal also mark.Differ also mark.AtMost also mark.Gives also mark.Implies also mark.Arrow also mark.Both also mark.Either also mark.Becomes also mark.LeftArrow also no_more
 
 front_whole : (s bs : List ℕ) → has_front s bs ≡ true → length s ≡ length bs → s ≡ bs
 front_whole [] [] e l = refl

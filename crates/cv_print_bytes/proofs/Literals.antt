@@ -20,9 +20,6 @@ module _ {names : List (List ℕ)} where
   both : {p : Bool} → Front names p false (codes "&&") (one mark.Both)
   both = symbol mark.Both (λ rest. refl) (λ rest. refl) refl
 
-  colon : {p : Bool} → Front names p false (codes ":") (one mark.Colon)
-  colon = symbol mark.Colon (λ rest. refl) (λ rest. refl) refl
-
   less : {p : Bool} → Front names p false (codes "<=") (one mark.AtMost)
   less = symbol mark.AtMost (λ rest. refl) (λ rest. refl) refl
 
@@ -57,8 +54,11 @@ module _ {names : List (List ℕ)} where
 
   -- of processes
 
+  -- the blank tells it from `:=`
   pub colon_space : {p : Bool} → Front names p false (codes ": ") (one mark.Colon)
-  colon_space = first colon last space
+  colon_space {p = p} = record {
+    goes = λ rest more h w. (begins p (58 ∷ 32 ∷ rest) refl, shows_token names kind.Symbol (codes ":") (32 ∷ rest) (sign.Mark mark.Colon) more refl (symbol_means names mark.Colon refl) (shows_blank names 32 rest more refl w));
+  }
 
   pub at_most : {p : Bool} → Front names p false (codes " <= ") (one mark.AtMost)
   at_most = first blank and less last space

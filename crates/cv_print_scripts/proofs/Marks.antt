@@ -126,16 +126,19 @@ closing = symbol mark.Close (λ rest. refl) (λ rest. refl) refl
 alone_means : {names behind : List (List ℕ)} (m : Mark) → is_sure_alone m ≡ true → Means names behind kind.Symbol (spelling m) (sign.Mark m)
 alone_means mark.Equal e = symbol_means mark.Equal refl
 alone_means mark.Bar e = symbol_means mark.Bar refl
+alone_means mark.Colon e = symbol_means mark.Colon refl
 alone_means m e = absurd (cc)
 
 alone_piece : (m : Mark) (rest : List ℕ) → is_sure_alone m ≡ true → piece (spelling m ++ (32 ∷ rest)) ≡ Lexeme kind.Symbol (length (spelling m))
 alone_piece mark.Equal rest e = refl
 alone_piece mark.Bar rest e = refl
+alone_piece mark.Colon rest e = refl
 alone_piece m rest e = absurd (cc)
 
 alone_apart : (m : Mark) (rest : List ℕ) → is_sure_alone m ≡ true → is_apart (spelling m ++ rest) ≡ true
 alone_apart mark.Equal rest e = refl
 alone_apart mark.Bar rest e = refl
+alone_apart mark.Colon rest e = refl
 alone_apart m rest e = absurd (cc)
 
 pub before_blank : {names behind : List (List ℕ)} (p : Bool) (m : Mark) → is_sure_alone m ≡ true → (rest : List ℕ) (ss : List _) → Reads names behind (32 ∷ rest) ss → Begins p (spelling m ++ (32 ∷ rest)) × Reads names behind (spelling m ++ (32 ∷ rest)) (sign.Mark m ∷ ss)
@@ -190,7 +193,7 @@ module _ {names behind : List (List ℕ)} where
   mark_front mark.CloseBrace e = symbol mark.CloseBrace (λ rest. refl) (λ rest. refl) refl
   mark_front mark.Comma e = symbol mark.Comma (λ rest. refl) (λ rest. refl) refl
   mark_front mark.Semicolon e = symbol mark.Semicolon (λ rest. refl) (λ rest. refl) refl
-  mark_front mark.Colon e = symbol mark.Colon (λ rest. refl) (λ rest. refl) refl
+  mark_front mark.Colon e = absurd (cc)
   mark_front mark.Dot e = symbol mark.Dot (λ rest. refl) (λ rest. refl) refl
   mark_front mark.Bar e = absurd (cc)
   mark_front mark.Bang e = symbol mark.Bang (λ rest. refl) (λ rest. refl) refl
@@ -205,6 +208,8 @@ module _ {names behind : List (List ℕ)} where
   mark_front mark.Both e = symbol mark.Both (λ rest. refl) (λ rest. refl) refl
   mark_front mark.Either e = symbol mark.Either (λ rest. refl) (λ rest. refl) refl
   mark_front mark.OpenAtoms e = absurd (cc)
+  mark_front mark.Becomes e = symbol mark.Becomes (λ rest. refl) (λ rest. refl) refl
+  mark_front mark.LeftArrow e = symbol mark.LeftArrow (λ rest. refl) (λ rest. refl) refl
 
 -- words of scripts
 

@@ -55,6 +55,7 @@ abbrev pub is_sure : Mark → Bool
 is_sure mark.Collision = false
 is_sure mark.Equal = false
 is_sure mark.Bar = false
+is_sure mark.Colon = false
 is_sure mark.OpenAtoms = false
 is_sure m = true
 
@@ -62,6 +63,7 @@ is_sure m = true
 abbrev pub is_sure_alone : Mark → Bool
 is_sure_alone mark.Equal = true
 is_sure_alone mark.Bar = true
+is_sure_alone mark.Colon = true
 is_sure_alone m = false
 
 abbrev pub has_text : ScriptWord → Bool

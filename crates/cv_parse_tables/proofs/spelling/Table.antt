@@ -69,6 +69,8 @@ found mark.Arrow = refl
 found mark.Both = refl
 found mark.Either = refl
 found mark.OpenAtoms = refl
+found mark.Becomes = refl
+found mark.LeftArrow = refl
 
 -- `find` is no mark
 pub find_is_none : mark_of_text (codes "find") ≡ None

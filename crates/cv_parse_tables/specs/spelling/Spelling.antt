@@ -67,6 +67,8 @@ spelling mark.Arrow = codes "->"
 spelling mark.Both = codes "&&"
 spelling mark.Either = codes "||"
 spelling mark.OpenAtoms = codes "("
+spelling mark.Becomes = codes ":="
+spelling mark.LeftArrow = codes "<-"
 
 -- the marks that a text tells, the most frequent ones first: of the two kinds of an opening parenthesis what follows tells
 abbrev pub marks : List Mark
@@ -76,7 +78,7 @@ marks =
     mark.Suchthat ∷ mark.Orfind ∷ mark.Defined ∷ mark.Both ∷ mark.Either ∷ mark.Differ ∷ mark.Yield ∷ mark.Arrow ∷ mark.Gives ∷ mark.Implies ∷
     mark.At ∷ mark.OpenBrace ∷ mark.CloseBrace ∷ mark.Prime ∷ mark.EventWord ∷ mark.TypeWord ∷ mark.Channel ∷ mark.Fun ∷ mark.ConstWord ∷ mark.Param ∷
     mark.Bool ∷ mark.Data ∷ mark.Fixed ∷ mark.Large ∷ mark.True ∷ mark.False ∷ mark.QueryWord ∷ mark.Secret ∷ mark.SecretOnce ∷ mark.Forall ∷
-    mark.EquationWord ∷ mark.Collision ∷ mark.Equiv ∷ mark.Inj ∷ mark.Bounded ∷ mark.Compos ∷ mark.Proba ∷ mark.Process ∷ mark.Proof ∷ mark.Cases ∷ []
+    mark.EquationWord ∷ mark.Collision ∷ mark.Equiv ∷ mark.Inj ∷ mark.Bounded ∷ mark.Compos ∷ mark.Proba ∷ mark.Process ∷ mark.Proof ∷ mark.Cases ∷ mark.Becomes ∷ mark.LeftArrow ∷ []
 
 -- a mark has this text
 abbrev pub is_spelled : List ℕ → Mark → Bool

@@ -7,7 +7,7 @@ ghost use Rattle.cv_parse_tables.specs.spelling.Spelling.{as_told, spelling, mar
 use cv_parse_notation::Mark;
 
 // The marks that a text tells, the most frequent ones first.
-static MARKS: [Mark; 60] = [
+static MARKS: [Mark; 62] = [
     Mark::Comma,
     Mark::Open,
     Mark::Close,
@@ -68,6 +68,8 @@ static MARKS: [Mark; 60] = [
     Mark::Process,
     Mark::Proof,
     Mark::Cases,
+    Mark::Becomes,
+    Mark::LeftArrow,
 ];
 
 /// How a mark is written.
@@ -136,6 +138,8 @@ pub fn spelling(mark: Mark) -> &'static str
         Mark::Both => "&&",
         Mark::Either => "||",
         Mark::OpenAtoms => "(",
+        Mark::Becomes => ":=",
+        Mark::LeftArrow => "<-",
     }
 }
 
