@@ -16,6 +16,7 @@ use Rattle.cv_script.specs.declared.reader.error.ScriptError.TheVariants as scri
 use Rattle.cv_parse_notation.specs.declared.sign.Sign.{Sign}
 use Rattle.cv_parse_grammar.specs.Names as names
 use Rattle.cv_parse_grammar.specs.depth.Files.{IsDeadAtEveryDepth, IsNestedTooDeep}
+use Rattle.cv_syntax.specs.declared.work.BuildError.{BuildError}
 use Rattle.cv_syntax.specs.declared.work.BuildError.TheVariants as build
 use Rattle.cv_syntax_trees.specs.Tree.{Tree}
 use Rattle.cv_parse.specs.declared.error.ParseError.{ParseError}
@@ -46,17 +47,20 @@ use Rattle.cv_library.specs.declared.error.GivenError.{GivenError}
 use Rattle.cv_library.specs.declared.error.GivenError.TheVariants as given
 use Rattle.cv_accept.specs.declared.error.FileError.{FileError}
 use Rattle.cv_accept.specs.declared.error.FileError.TheVariants as fault
-use Rattle.cv_accept.specs.Accepted.{IsFull, Refuses, block_by, block_of, content_of, group_fault, of_parsed, of_script, of_tokens, query_fault, read_of, scope_fault, there, type_fault}
+use Rattle.cv_accept.specs.Accepted.{IsFull, Refuses, block_by, block_of, content_of, file_of, group_fault, of_parsed, of_script, of_tokens, query_fault, read_of, scope_fault, there, type_fault}
+use Rattle.cv_oracles.specs.Translations.{number_in, read_as}
+use Rattle.cv_accept.specs.Numbers.{parse_told}
 use Rattle.cv_accept.specs.Places.{nodes_before}
 use Rattle.cv_accept.proofs.Places.{behind_none, behind_some}
-use Rattle.cv_accept.proofs.Stages.{by_groups, by_queries, by_scopes, by_script, by_tokens, by_types, given_only, lexis_of, not_given, past_groups, past_scopes, past_script, past_types, rank, types_rank}
+use Rattle.cv_accept.proofs.Stages.{IsParsed, by_groups, by_queries, by_scopes, by_script, by_tokens, by_types, given_only, lexis_of, not_given, past_groups, past_scopes, past_script, past_types, rank, told_same, types_rank}
+use Rattle.cv_accept.proofs.Telling.{as_build, as_nesting, as_syntax, as_twice, as_unknown, told_error, told_script}
 use Rattle.cv_report.specs.declared.report.Cause.TheVariants.{Moves, Stuck}
 use Rattle.cv_report.specs.declared.report.Command.{Command}
 use Rattle.cv_report.specs.declared.report.Command.TheVariants as command
 use Rattle.cv_report.specs.declared.report.Report.{Report}
 use Rattle.cv_report.specs.declared.report.Status.TheVariants as status
 use Rattle.cv_syntax.specs.declared.work.File.{File}
-use Rattle.cv.specs.Causes.{ComesFrom, HasAllSteps, HasGroupFault, HasNoScript, HasOpenQuery, HasQueryFault, HasScopeFault, HasStop, HasTypeFault, LeavesOpen, OfTokens, Outside, PassesLimit, block_signs}
+use Rattle.cv.specs.Causes.{ComesFrom, HasAllSteps, HasGroupFault, HasNoScript, HasOpenQuery, HasQueryFault, HasScopeFault, HasStop, HasTypeFault, LeavesOpen, OfToken, OfTokens, Outside, PassesLimit, block_signs}
 use Rattle.cv.specs.Causes as cause
 use Rattle.cv.specs.Faults.{parse_ended, status_of as ended_by}
 use Rattle.cv.specs.Words.{AreTold}
@@ -190,19 +194,52 @@ by_said : (ts : List Token) (x : FileError) (Holds : List Token → Type 0) (l :
 by_said ts x Holds l h (Ok p) e i = h ts p e i
 by_said ts x Holds l h (Err y) e i = absurd (let s : fault.Parse y ≡ x = cc in let j = subst (λ y. rank y ≤ 1) s (omega arith) in omega arith)
 
-by_bytes : (source : Given) (x : FileError) (Holds : List Token → Type 0) (l : 2 ≤ rank x) → rank x ≤ 6 → of_file x Holds l → (r : Result (List Token) GivenError) → tokens_given source ≡ r → of_tokens most_pool r ≡ Err x → OfTokens source Holds
-by_bytes source x Holds l m h (Ok ts) e i = record { tokens = ts; given = e; holds = by_said ts x Holds l h (parsed most_pool (signs_of ts).signs) refl i }
-by_bytes source x Holds l m h (Err y) e i = absurd (let one : 1 ≤ rank x = omega (arith, l) in given_only y x one m (cc))
+by_file : (ts : List Token) (x : FileError) (Holds : List Token → Type 0) (l : 2 ≤ rank x) → of_file x Holds l → file_of most_pool ts ≡ Err x → Holds ts
+unfolding file_of
+by_file ts x Holds l h e = by_said ts x Holds l h (parsed most_pool (signs_of ts).signs) refl e
 
-refused_later : (source : Given) (x : FileError) (Holds : List Token → Type 0) (l : 2 ≤ rank x) → rank x ≤ 6 → of_file x Holds l → read_of most_pool source ≡ Err x → OfTokens source Holds
-unfolding read_of
-refused_later source x Holds l m h e = by_bytes source x Holds l m h (tokens_given source) refl e
+by_bytes : (source : Given) (x : FileError) (Holds : List Token → Type 0) (l : 2 ≤ rank x) → 3 ≤ rank x → rank x ≤ 6 → of_file x Holds l → (r : Result (List Token) GivenError) → tokens_given source ≡ r → of_tokens most_pool r ≡ Err x → OfTokens source Holds
+by_bytes source x Holds l n m h (Ok ts) e i =
+    let t = told_error (number_in ts) (file_of most_pool (read_as ts)) x i in
+    record { tokens = ts; given = e; holds = by_file (read_as ts) x Holds l h (t.1 ∙ ap (λ y. Err y) (told_same (number_in ts) t.0 x n t.2)) }
+by_bytes source x Holds l n m h (Err y) e i = absurd (let one : 1 ≤ rank x = omega (arith, l) in given_only y x one m (cc))
 
-told : (source : Given) (x : ParseError) (Holds : List Sign → Type 0) → ((signs : List Sign) → parsed most_pool signs ≡ Err x → Holds signs) → read_of most_pool source ≡ Err (fault.Parse x) → OfTokens source (λ ts. Holds (signs_of ts).signs)
+refused_later : (source : Given) (x : FileError) (Holds : List Token → Type 0) (l : 2 ≤ rank x) → 3 ≤ rank x → rank x ≤ 6 → of_file x Holds l → read_of most_pool source ≡ Err x → OfTokens source Holds
 unfolding read_of
-told source x Holds h e =
-    let t = by_tokens most_pool (tokens_given source) x e in
-    record { tokens = t.0; given = t.1; holds = h (signs_of t.0).signs t.2 }
+refused_later source x Holds l n m h e = by_bytes source x Holds l n m h (tokens_given source) refl e
+
+script_in : (source : Given) (k : ℕ) (r : Result (List Token) GivenError) → tokens_given source ≡ r → of_tokens most_pool r ≡ Err (fault.Script k) → OfToken source k (λ ts j. HasNoScript ts j)
+script_in source k (Ok ts) e i =
+    let t = told_error (number_in ts) (file_of most_pool (read_as ts)) (fault.Script k) i in
+    let s = told_script (number_in ts) t.0 k t.2 in
+    record {
+      tokens = ts;
+      given = e;
+      place = s.0;
+      number = sym s.2;
+      holds = by_file (read_as ts) (fault.Script s.0) (λ us. HasNoScript us s.0) (omega arith) (λ us p n m. script_cause us p n s.0 m) (t.1 ∙ ap (λ y. Err y) s.1);
+    }
+script_in source k (Err y) e i = absurd (given_only y (fault.Script k) (omega arith) (omega arith) (cc))
+
+no_block : (source : Given) (k : ℕ) → read_of most_pool source ≡ Err (fault.Script k) → OfToken source k (λ ts j. HasNoScript ts j)
+unfolding read_of
+no_block source k e = script_in source k (tokens_given source) refl e
+
+parsed_refusal : (source : Given) (x : ParseError) → read_of most_pool source ≡ Err (fault.Parse x) → IsParsed most_pool (tokens_given source) x
+unfolding read_of
+parsed_refusal source x e = by_tokens most_pool (tokens_given source) x e
+
+-- a refusal that tells no token
+told : (source : Given) (b : BuildError) (Holds : List Sign → Type 0) → ((signs : List Sign) → parsed most_pool signs ≡ Err (parse.Build b) → Holds signs) → read_of most_pool source ≡ Err (fault.Parse (parse.Build b)) → OfTokens source (λ ts. Holds (signs_of ts).signs)
+told source b Holds h e =
+    let t = parsed_refusal source (parse.Build b) e in
+    record { tokens = t.tokens; given = t.given; holds = h (signs_of (read_as t.tokens)).signs (t.parses ∙ ap (λ y. Err y) (as_build (number_in t.tokens) t.refusal b t.told)) }
+
+-- a refusal that tells one
+told_at : (source : Given) (refused : ℕ → ParseError) (k : ℕ) (Holds : List Sign → ℕ → Type 0) → ((number : ℕ → ℕ) (y : ParseError) → parse_told number y ≡ refused k → (j : ℕ) × (y ≡ refused j) × (number j ≡ k)) → ((signs : List Sign) (j : ℕ) → parsed most_pool signs ≡ Err (refused j) → Holds signs j) → IsParsed most_pool (tokens_given source) (refused k) → OfToken source k (λ ts j. Holds (signs_of ts).signs j)
+told_at source refused k Holds tells h t =
+    let s = tells (number_in t.tokens) t.refusal t.told in
+    record { tokens = t.tokens; given = t.given; place = s.0; number = sym s.2; holds = h (signs_of (read_as t.tokens)).signs s.0 (t.parses ∙ ap (λ y. Err y) s.1) }
 
 -- of a told source this holds
 pub where_told : (told : Option Given) (source : Given) (P : Given → Type 0) → AreTold told source → P source → IfSome told P
@@ -217,15 +254,15 @@ refusal_cause o r source a none x e = go x e
     in_told P p = where_told o.told source P a p
 
     parsing : (x : ParseError) → read_of most_pool source ≡ Err (fault.Parse x) → ComesFrom o r (parse_ended x)
-    parsing (parse.Syntax k) e = cause.syntax (in_told _ (told source (parse.Syntax k) (λ signs. IsDeadAtEveryDepth signs k) (λ signs i. dead_anywhere most_pool signs k i) e))
-    parsing (parse.Nesting k) e = cause.nesting (in_told _ (told source (parse.Nesting k) (λ signs. IsNestedTooDeep signs k) (λ signs i. nested_at most_pool signs k i) e))
-    parsing (parse.NameTwice k) e = cause.name_twice (in_told _ (told source (parse.NameTwice k) (λ signs. IsMisnamedAt signs names.NameTwice k) (λ signs i. twice_named most_pool signs k i) e))
-    parsing (parse.NameUnknown k) e = cause.name_unknown (in_told _ (told source (parse.NameUnknown k) (λ signs. IsMisnamedAt signs names.NameUnknown k) (λ signs i. unknown_name most_pool signs k i) e))
+    parsing (parse.Syntax k) e = cause.syntax (in_told _ (told_at source parse.Syntax k (λ signs j. IsDeadAtEveryDepth signs j) (λ number y i. as_syntax number y k i) (λ signs j i. dead_anywhere most_pool signs j i) (parsed_refusal source (parse.Syntax k) e)))
+    parsing (parse.Nesting k) e = cause.nesting (in_told _ (told_at source parse.Nesting k (λ signs j. IsNestedTooDeep signs j) (λ number y i. as_nesting number y k i) (λ signs j i. nested_at most_pool signs j i) (parsed_refusal source (parse.Nesting k) e)))
+    parsing (parse.NameTwice k) e = cause.name_twice (in_told _ (told_at source parse.NameTwice k (λ signs j. IsMisnamedAt signs names.NameTwice j) (λ number y i. as_twice number y k i) (λ signs j i. twice_named most_pool signs j i) (parsed_refusal source (parse.NameTwice k) e)))
+    parsing (parse.NameUnknown k) e = cause.name_unknown (in_told _ (told_at source parse.NameUnknown k (λ signs j. IsMisnamedAt signs names.NameUnknown j) (λ number y i. as_unknown number y k i) (λ signs j i. unknown_name most_pool signs j i) (parsed_refusal source (parse.NameUnknown k) e)))
     parsing (parse.Build (build.Full n)) e =
-        let large = told source (parse.Build (build.Full n)) (λ signs. IsLarge signs (HasWeight most_pool n)) (λ signs i. heavy_trees most_pool signs n i) e in
+        let large = told source (build.Full n) (λ signs. IsLarge signs (HasWeight most_pool n)) (λ signs i. heavy_trees most_pool signs n i) e in
         cause.pool (subst (λ (f : Option File). IsNone f) (sym none) refl) large.holds.large.0 (in_told _ large)
-    parsing (parse.Build (build.Nodes n)) e = cause.nodes (in_told _ (told source (parse.Build (build.Nodes n)) (λ signs. IsLarge signs (HasNodes n)) (λ signs i. large_game most_pool signs n i) e))
-    parsing (parse.Build (build.Depth n)) e = cause.deep (in_told _ (told source (parse.Build (build.Depth n)) (λ signs. IsLarge signs (HasDepth n)) (λ signs i. deep_game most_pool signs n i) e))
+    parsing (parse.Build (build.Nodes n)) e = cause.nodes (in_told _ (told source (build.Nodes n) (λ signs. IsLarge signs (HasNodes n)) (λ signs i. large_game most_pool signs n i) e))
+    parsing (parse.Build (build.Depth n)) e = cause.deep (in_told _ (told source (build.Depth n) (λ signs. IsLarge signs (HasDepth n)) (λ signs i. deep_game most_pool signs n i) e))
     parsing (parse.Build build.OutOfMemory) e = cause.memory
 
     go : (x : FileError) → Refuses most_pool source x → ComesFrom o r (ended_by x)
@@ -235,11 +272,11 @@ refusal_cause o r source a none x e = go x e
     go (fault.Expand x) e = cause.not_expanded (in_told (λ (s : Given). tokens_given s ≡ Err (given.Expand x)) (not_given source (given.Expand x) (omega arith) e))
     go (fault.Tokens n) e = cause.tokens (in_told (λ (s : Given). tokens_given s ≡ Err (given.Tokens n)) (not_given source (given.Tokens n) (omega arith) e))
     go (fault.Parse x) e = parsing x e
-    go (fault.Script k) e = cause.script (in_told _ (refused_later source (fault.Script k) (λ ts. HasNoScript ts k) (omega arith) (omega arith) (λ ts p i j. script_cause ts p i k j) e))
-    go (fault.Types x) e = cause.types (in_told _ (refused_later source (fault.Types x) (λ ts. HasTypeFault ts x) (omega arith) (omega arith) (λ ts p i j. type_cause ts p i x j) e))
-    go (fault.Scope x) e = cause.scope (in_told _ (refused_later source (fault.Scope x) (λ ts. HasScopeFault ts x) (omega arith) (omega arith) (λ ts p i j. scope_cause ts p i x j) e))
-    go (fault.Group k x) e = cause.group (in_told _ (refused_later source (fault.Group k x) (λ ts. HasGroupFault ts k x) (omega arith) (omega arith) (λ ts p i j. group_cause ts p i k x j) e))
-    go (fault.Query k) e = cause.query (in_told _ (refused_later source (fault.Query k) (λ ts. HasQueryFault ts k) (omega arith) (omega arith) (λ ts p i j. query_cause ts p i k j) e))
+    go (fault.Script k) e = cause.script (in_told _ (no_block source k e))
+    go (fault.Types x) e = cause.types (in_told _ (refused_later source (fault.Types x) (λ ts. HasTypeFault ts x) (omega arith) (omega arith) (omega arith) (λ ts p i j. type_cause ts p i x j) e))
+    go (fault.Scope x) e = cause.scope (in_told _ (refused_later source (fault.Scope x) (λ ts. HasScopeFault ts x) (omega arith) (omega arith) (omega arith) (λ ts p i j. scope_cause ts p i x j) e))
+    go (fault.Group k x) e = cause.group (in_told _ (refused_later source (fault.Group k x) (λ ts. HasGroupFault ts k x) (omega arith) (omega arith) (omega arith) (λ ts p i j. group_cause ts p i k x j) e))
+    go (fault.Query k) e = cause.query (in_told _ (refused_later source (fault.Query k) (λ ts. HasQueryFault ts k) (omega arith) (omega arith) (omega arith) (λ ts p i j. query_cause ts p i k j) e))
     go (fault.Room need) e = cause.script_room (subst (λ (f : Option File). IsNone f) (sym none) refl) (in_told (λ bs. IsFull most_pool bs need) e)
     go fault.OutOfMemory e = cause.memory
 

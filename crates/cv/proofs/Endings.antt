@@ -101,9 +101,9 @@ good_room source need g w =
     let same = full_content most_pool source need g.content w (file_is_read most_pool source g.content g.file) in
     let nodes = ap content_nodes same in
     let l = g.succeeds.fits in
-    let o = w.over in
-    let a = w.asked in
-    let n = items_nodes w.script in
+    let o = w.lacks.over in
+    let a = w.lacks.asked in
+    let n = items_nodes w.lacks.script in
     omega arith
 
 judged_well : (c : Command) (s : Status) (source : Given) → IsGood source → Judged c s source → (IsExpected c (read_of most_pool source) s → s ≡ ends_under c status.Proved) → EndsWell c s

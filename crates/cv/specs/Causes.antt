@@ -9,6 +9,7 @@ use Rattle.cv_library.specs.Givens.{Given, tokens_given}
 use Rattle.cv_library.specs.declared.error.ExpandError.{ExpandError}
 use Rattle.cv_library.specs.declared.error.GivenError.TheVariants as given
 use Rattle.cv_library.specs.declared.error.LibraryError.{LibraryError}
+use Rattle.cv_oracles.specs.Translations.{number_in, read_as}
 use Rattle.cv_parse_tables.specs.terminals.ScriptSigns.{between, script_signs}
 use Rattle.cv_parse_tables.specs.terminals.Signs.{signs_of}
 use Rattle.cv_script_laws.specs.forms.Scripts.{IsSomeScript}
@@ -54,11 +55,19 @@ use Rattle.cv_follow.specs.Searches.{AreMoves, Passes}
 use Rattle.cv.specs.Strategy.{declared_in, game_in, moves_in, nodes_in, steps_in}
 use Rattle.cv.specs.Words.{IsLong, source_asked, text_asked}
 
--- The source has tokens, of which this holds.
+-- The source has tokens, and of those that are read this holds: the same ones, or those of the file for which they stand.
 pub record OfTokens (source : Given) (Holds : List Token → Type 0) : Type 0 where
   pub tokens : List Token
   pub given : tokens_given source ≡ Ok tokens
-  pub holds : Holds tokens
+  pub holds : Holds (read_as tokens)
+
+-- The same of one of the tokens that are read, whose number in the source is this.
+pub record OfToken (source : Given) (token : ℕ) (Holds : List Token → ℕ → Type 0) : Type 0 where
+  pub tokens : List Token
+  pub given : tokens_given source ≡ Ok tokens
+  pub place : ℕ
+  pub number : token ≡ number_in tokens place
+  pub holds : Holds (read_as tokens) place
 
 -- the signs of a proof block
 abbrev pub block_signs : List Token → ℕ × ℕ → List Sign
@@ -200,7 +209,16 @@ OfTold o Holds = IfSome o.told (λ source. OfTokens source Holds)
 abbrev pub OfSigns : Outside → (List Sign → Type 0) → Type 0
 OfSigns o Holds = OfTold o (λ tokens. Holds (signs_of tokens).signs)
 
--- The table of causes: what each answer comes from. What is said of a source is said of a told one. All tokens are those of the expanded
+-- the same of the token that has this number in the source
+
+abbrev pub OfToldAt : Outside → ℕ → (List Token → ℕ → Type 0) → Type 0
+OfToldAt o token Holds = IfSome o.told (λ source. OfToken source token Holds)
+
+abbrev pub OfSignsAt : Outside → ℕ → (List Sign → ℕ → Type 0) → Type 0
+OfSignsAt o token Holds = OfToldAt o token (λ tokens place. Holds (signs_of tokens).signs place)
+
+-- The table of causes: what each answer comes from. What is said of a source is said of a told one. All tokens are those that
+-- are read: of the expanded file, or, where this is an oracle file, of the file for which it stands; their numbers are told in the expanded
 -- file.
 pub data ComesFrom (o : Outside) (r : Report) : Status → Type 0 where
   all_proved : list_all is_proved r.verdicts.items ≡ true → ComesFrom o r status.Proved
@@ -220,11 +238,11 @@ pub data ComesFrom (o : Outside) (r : Report) : Status → Type 0 where
   no_library : {e : LibraryError} → IfSome o.told (λ source. tokens_given source ≡ Err (given.Library e)) → ComesFrom o r (status.FileRefused (Library e))
   not_expanded : {e : ExpandError} → IfSome o.told (λ source. tokens_given source ≡ Err (given.Expand e)) → ComesFrom o r (status.FileRefused (Expand e))
   tokens : {count : ℕ} → IfSome o.told (λ source. tokens_given source ≡ Err (given.Tokens count)) → ComesFrom o r (status.Limit (Tokens count))
-  syntax : {token : ℕ} → OfSigns o (λ signs. IsDeadAtEveryDepth signs token) → ComesFrom o r (status.FileRefused (Parse (Syntax token)))
-  nesting : {token : ℕ} → OfSigns o (λ signs. IsNestedTooDeep signs token) → ComesFrom o r (status.FileRefused (Parse (Nesting token)))
-  name_twice : {token : ℕ} → OfSigns o (λ signs. IsMisnamedAt signs names.NameTwice token) → ComesFrom o r (status.FileRefused (Parse (NameTwice token)))
-  name_unknown : {token : ℕ} → OfSigns o (λ signs. IsMisnamedAt signs names.NameUnknown token) → ComesFrom o r (status.FileRefused (Parse (NameUnknown token)))
-  script : {token : ℕ} → OfTold o (λ tokens. HasNoScript tokens token) → ComesFrom o r (status.FileRefused (Script token))
+  syntax : {token : ℕ} → OfSignsAt o token (λ signs place. IsDeadAtEveryDepth signs place) → ComesFrom o r (status.FileRefused (Parse (Syntax token)))
+  nesting : {token : ℕ} → OfSignsAt o token (λ signs place. IsNestedTooDeep signs place) → ComesFrom o r (status.FileRefused (Parse (Nesting token)))
+  name_twice : {token : ℕ} → OfSignsAt o token (λ signs place. IsMisnamedAt signs names.NameTwice place) → ComesFrom o r (status.FileRefused (Parse (NameTwice token)))
+  name_unknown : {token : ℕ} → OfSignsAt o token (λ signs place. IsMisnamedAt signs names.NameUnknown place) → ComesFrom o r (status.FileRefused (Parse (NameUnknown token)))
+  script : {token : ℕ} → OfToldAt o token (λ tokens place. HasNoScript tokens place) → ComesFrom o r (status.FileRefused (Script token))
   types : {e : TypeFault} → OfTold o (λ tokens. HasTypeFault tokens e) → ComesFrom o r (status.FileRefused (Types e))
   scope : {e : ScopeFault} → OfTold o (λ tokens. HasScopeFault tokens e) → ComesFrom o r (status.FileRefused (Scope e))
   group : {k : ℕ} {e : GroupFault} → OfTold o (λ tokens. HasGroupFault tokens k e) → ComesFrom o r (status.FileRefused (Group k e))

@@ -1,5 +1,5 @@
 -- The stages that refuse a source: what a refusal by a later one passed.
-use Rattle.std.proofs.Common.{◌≡◌, ◌≤◌, ℕ, List, refl, ap, subst, arith, Option, Some, None, Result, Ok, Err}
+use Rattle.std.proofs.Common.{◌≡◌, ◌≤◌, ℕ, List, refl, ap, ◌∙◌, subst, arith, Option, Some, None, Result, Ok, Err}
 use Rattle.cv_lex.specs.declared.LexError.{LexError}
 use Rattle.cv_lex.specs.Lexis.{Token, tokens_of}
 use Rattle.cv_library.specs.Expansions.{expanded}
@@ -27,7 +27,10 @@ use Rattle.cv_group.specs.Refusals.{refused_by}
 use Rattle.cv_group_rules.specs.Faults.{GroupRule}
 use Rattle.cv_accept.specs.declared.error.FileError.{FileError}
 use Rattle.cv_accept.specs.declared.error.FileError.TheVariants as fault
-use Rattle.cv_accept.specs.Accepted.{Content, block_of, content_of, group_fault, most_pool, of_block, of_given, of_groups, of_parsed, of_queries, of_scopes, of_script, of_tokens, of_types, query_fault, read_of, scope_fault, type_fault}
+use Rattle.cv_oracles.specs.Translations.{number_in, read_as}
+use Rattle.cv_accept.specs.Numbers.{parse_told, told}
+use Rattle.cv_accept.proofs.Telling.{told_error, told_parse}
+use Rattle.cv_accept.specs.Accepted.{Content, block_of, content_of, file_of, group_fault, most_pool, of_block, of_given, of_groups, of_parsed, of_queries, of_scopes, of_script, of_tokens, of_types, query_fault, read_of, scope_fault, type_fault}
 
 -- the order of the stages that refuse
 abbrev pub rank : FileError → ℕ
@@ -164,13 +167,77 @@ by_file : (library : Option (List ℕ)) (r : Result (List Token) LexError) (x : 
 by_file library (Ok ts) x e = absurd (file_lexed ts library x e)
 by_file library (Err y) x e = let s : y ≡ x = cc in ap (λ z. let r : Result (List Token) LexError = Err z in r) s
 
-pub by_tokens : (limit : ℕ) (r : Result (List Token) GivenError) (x : ParseError) → of_tokens limit r ≡ Err (fault.Parse x) → (ts : List Token) × (r ≡ Ok ts) × (parsed limit (signs_of ts).signs ≡ Err x)
-by_tokens limit (Ok ts) x e = (ts, refl, by_parsed ts (parsed limit (signs_of ts).signs) x e)
+-- numbers of tokens
+
+-- a told fault is of the same stage
+told_rank : (number : ℕ → ℕ) (e : FileError) → rank (told number e) ≡ rank e
+told_rank number (fault.Lex e) = refl
+told_rank number (fault.LibraryLex e) = refl
+told_rank number (fault.Library e) = refl
+told_rank number (fault.Expand e) = refl
+told_rank number (fault.Tokens count) = refl
+told_rank number (fault.Parse e) = refl
+told_rank number (fault.Script k) = refl
+told_rank number (fault.Types e) = refl
+told_rank number (fault.Scope e) = refl
+told_rank number (fault.Group k e) = refl
+told_rank number (fault.Query k) = refl
+told_rank number fault.OutOfMemory = refl
+told_rank number (fault.Room need) = refl
+
+-- faults behind that of a script tell no token
+pub told_same : (number : ℕ → ℕ) (y x : FileError) → 3 ≤ rank x → told number y ≡ x → y ≡ x
+told_same number (fault.Lex e) x l h = h
+told_same number (fault.LibraryLex e) x l h = h
+told_same number (fault.Library e) x l h = h
+told_same number (fault.Expand e) x l h = h
+told_same number (fault.Tokens count) x l h = h
+told_same number (fault.Parse e) x l h = absurd (let m : 1 ≡ rank x = ap rank h in omega arith)
+told_same number (fault.Script k) x l h = absurd (let m : 2 ≡ rank x = ap rank h in omega arith)
+told_same number (fault.Types e) x l h = h
+told_same number (fault.Scope e) x l h = h
+told_same number (fault.Group k e) x l h = h
+told_same number (fault.Query k) x l h = h
+told_same number fault.OutOfMemory x l h = h
+told_same number (fault.Room need) x l h = h
+
+-- a refusal of the grammar is one of the tokens that are read
+
+pub record IsParsed (limit : ℕ) (r : Result (List Token) GivenError) (x : ParseError) : Type 0 where
+  pub tokens : List Token
+  pub given : r ≡ Ok tokens
+  pub refusal : ParseError
+  pub parses : parsed limit (signs_of (read_as tokens)).signs ≡ Err refusal
+  pub told : parse_told (number_in tokens) refusal ≡ x
+
+pub by_tokens : (limit : ℕ) (r : Result (List Token) GivenError) (x : ParseError) → of_tokens limit r ≡ Err (fault.Parse x) → IsParsed limit r x
+unfolding file_of
+by_tokens limit (Ok ts) x e =
+    let t = told_error (number_in ts) (file_of limit (read_as ts)) (fault.Parse x) e in
+    let p = told_parse (number_in ts) t.0 x t.2 in
+    record {
+      tokens = ts;
+      given = refl;
+      refusal = p.0;
+      parses = by_parsed (read_as ts) (parsed limit (signs_of (read_as ts)).signs) p.0 (t.1 ∙ ap Err p.1);
+      told = p.2;
+    }
 by_tokens limit (Err y) x e = absurd (given_only y (fault.Parse x) (omega arith) (omega arith) (cc))
+
+file_rank : (limit : ℕ) (ts : List Token) (x : FileError) → file_of limit ts ≡ Err x → 1 ≤ rank x
+unfolding file_of
+file_rank limit ts x e = parsed_rank ts (parsed limit (signs_of ts).signs) x e
 
 -- why there are no tokens, where a refusal says so
 by_given : (limit : ℕ) (r : Result (List Token) GivenError) (x : GivenError) → rank (of_given x) ≤ 0 → of_tokens limit r ≡ Err (of_given x) → r ≡ Err x
-by_given limit (Ok ts) x l e = absurd (let m = parsed_rank ts (parsed limit (signs_of ts).signs) (of_given x) e in omega arith)
+by_given limit (Ok ts) x l e =
+    absurd (
+    let t = told_error (number_in ts) (file_of limit (read_as ts)) (of_given x) e in
+    let m = file_rank limit (read_as ts) t.0 t.1 in
+    let n = told_rank (number_in ts) t.0 in
+    let o = ap rank t.2 in
+    omega arith
+    )
 by_given limit (Err y) x l e = ap (λ z. let r : Result (List Token) GivenError = Err z in r) (same_given y x (cc))
 
 pub lexis_of : (source : Given) (x : LexError) → read_of most_pool source ≡ Err (fault.Lex x) → tokens_of source.bytes ≡ Err x

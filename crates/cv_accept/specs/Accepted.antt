@@ -4,6 +4,7 @@ use Rattle.cv_lex.specs.Lexis.{Token}
 use Rattle.cv_library.specs.Givens.{AreGiven, Given, tokens_given}
 use Rattle.cv_library.specs.declared.error.GivenError.{GivenError}
 use Rattle.cv_library.specs.declared.error.GivenError.TheVariants as fault
+use Rattle.cv_oracles.specs.Translations.{number_in, read_as}
 use Rattle.cv_parse_tables.specs.terminals.ScriptSigns.{between, script_signs}
 use Rattle.cv_parse_tables.specs.terminals.Signs.{signs_of}
 use Rattle.cv_script.specs.declared.reader.error.ScriptError.{ScriptError}
@@ -31,6 +32,7 @@ use Rattle.cv_query_form.specs.Rules.{AreAsked}
 use Rattle.cv_query_form.specs.Tests.{first_refused}
 use Rattle.cv_accept.specs.declared.error.FileError.{FileError}
 use Rattle.cv_accept.specs.declared.error.FileError.TheVariants.{Lex, LibraryLex, Library, Expand, Tokens, Parse, Script, Types, Scope, Group, Query, Room, OutOfMemory}
+use Rattle.cv_accept.specs.Numbers.{told_by}
 use Rattle.cv_accept.specs.Places.{behind, nodes_before}
 
 -- the most bytes of a file
@@ -80,12 +82,26 @@ content_of ts p block = record {
   script = option_map items block;
 }
 
+-- These tokens are read: those that are given, or, where these are an oracle file, those of the file for which it stands.
+pub record AreRead (given : Given) (tokens : List Token) : Type 0 where
+  pub source : List Token
+  pub lexed : AreGiven given source
+  pub stand : tokens ≡ read_as source
+
+-- the same, computed
+abbrev pub read_by : Result (List Token) GivenError → Result (List Token) GivenError
+read_by (Ok ts) = Ok (read_as ts)
+read_by (Err e) = Err e
+
+abbrev pub tokens_read : Given → Result (List Token) GivenError
+tokens_read given = read_by (tokens_given given)
+
 -- What is given is a file that holds this, in a pool with such a limit: with a proof block that is a script, if it has one, typed,
 -- in scope, with equivalences that are accepted and queries that may be asked.
 pub record IsFile (limit : ℕ) (given : Given) (f : Content) : Type 0 where
   pub tokens : List Token
   pub said : Parsed
-  pub lexed : AreGiven given tokens
+  pub lexed : AreRead given tokens
   pub says : Says limit (signs_of tokens).signs said
   pub script : Option Tree
   pub block : block_of tokens said ≡ Ok script
@@ -95,16 +111,20 @@ pub record IsFile (limit : ℕ) (given : Given) (f : Content) : Type 0 where
   pub asked : AreAsked said.game (queries_in said.declarations)
   pub content : f ≡ content_of tokens said script
 
--- The proof block of a file has steps for whose nodes a pool with all nodes of the file has no room.
-pub record IsFull (limit : ℕ) (given : Given) (need : ℕ) : Type 0 where
-  pub tokens : List Token
+-- These tokens are those of a file whose proof block has steps for whose nodes a pool with all nodes of the file has no room.
+pub record LacksRoom (limit : ℕ) (tokens : List Token) (need : ℕ) : Type 0 where
   pub said : Parsed
-  pub lexed : tokens_given given ≡ Ok tokens
   pub says : Says limit (signs_of tokens).signs said
   pub script : Tree
   pub block : block_of tokens said ≡ Ok (Some script)
   pub asked : need ≡ nodes_of script
   pub over : limit < file_nodes said.declarations said.game + need
+
+-- The tokens that are read are such ones.
+pub record IsFull (limit : ℕ) (given : Given) (need : ℕ) : Type 0 where
+  pub tokens : List Token
+  pub lexed : tokens_read given ≡ Ok tokens
+  pub lacks : LacksRoom limit tokens need
 
 -- the same, computed, with what it is refused for
 
@@ -162,11 +182,16 @@ of_given (fault.Expand e) = Expand e
 of_given (fault.Tokens count) = Tokens count
 of_given fault.OutOfMemory = OutOfMemory
 
+-- what these tokens say: their proof block, types, scope, equivalences and queries
+unfoldable pub file_of : (limit : ℕ) → List Token → Result Content FileError
+file_of limit ts = of_parsed ts (parsed limit (signs_of ts).signs)
+
+-- the number of a token is its number in what is given
 abbrev pub of_tokens : ℕ → Result (List Token) GivenError → Result Content FileError
-of_tokens limit (Ok ts) = of_parsed ts (parsed limit (signs_of ts).signs)
+of_tokens limit (Ok ts) = told_by (number_in ts) (file_of limit (read_as ts))
 of_tokens limit (Err e) = Err (of_given e)
 
--- Its tokens first, then what these say, the proof block, types, scope, equivalences and queries.
+-- Its tokens first, then what those that are read say.
 unfoldable pub read_of : (limit : ℕ) → Given → Result Content FileError
 read_of limit given = of_tokens limit (tokens_given given)
 
@@ -175,3 +200,9 @@ abbrev pub Refuses : (limit : ℕ) → Given → FileError → Type 0
 Refuses limit given OutOfMemory = Unit {0}
 Refuses limit given (Room need) = IsFull limit given need
 Refuses limit given e = read_of limit given ≡ Err e
+
+-- the same of tokens that are read
+abbrev pub RefusesTokens : (limit : ℕ) → List Token → FileError → Type 0
+RefusesTokens limit ts OutOfMemory = Unit {0}
+RefusesTokens limit ts (Room need) = LacksRoom limit ts need
+RefusesTokens limit ts e = file_of limit ts ≡ Err e

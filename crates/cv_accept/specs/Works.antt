@@ -2,6 +2,7 @@
 use Rattle.std.specs.Prelude.{◌≡◌, ℕ, ◌+◌, ◌<◌, ◌≤◌, All, List, length, Option, Some, None, option_map, Result, Ok, Err}
 use Rattle.std.specs.declared.vec.Vec.{Vec}
 use Rattle.std.specs.declared.alloc.Global.{Global}
+use Rattle.cv_lex.specs.Lexis.{Token}
 use Rattle.cv_library.specs.Givens.{Given}
 use Rattle.cv_pool.specs.declared.node.NodeId.{NodeId}
 use Rattle.cv_pool.specs.KindTree.{KindTree}
@@ -21,7 +22,7 @@ use Rattle.cv_meaning.specs.Queries.{queries_in}
 use Rattle.cv_query_form.specs.Rules.{AreAsked}
 use Rattle.cv_accept.specs.declared.error.FileError.{FileError}
 use Rattle.cv_accept.specs.declared.file.Accepted.{Accepted}
-use Rattle.cv_accept.specs.Accepted.{Content, Refuses, read_of}
+use Rattle.cv_accept.specs.Accepted.{Content, Refuses, RefusesTokens, file_of, read_of}
 
 -- the trees of the steps of a proof block
 abbrev pub script_in : List KindTree → Option (Vec Step Global) → Option (List Tree)
@@ -44,6 +45,11 @@ content_at w root script = content_in w.names w.decls.own w.pool.trees w.decls.l
 abbrev pub Reads : (limit : ℕ) → Given → Work → Result Accepted FileError → Type 0
 Reads limit given w (Ok f) = read_of limit given ≡ Ok (content_at w f.file.game.root f.script)
 Reads limit given w (Err e) = Refuses limit given e
+
+-- the same of tokens
+abbrev pub ReadsTokens : (limit : ℕ) → List Token → Work → Result Accepted FileError → Type 0
+ReadsTokens limit ts w (Ok f) = file_of limit ts ≡ Ok (content_at w f.file.game.root f.script)
+ReadsTokens limit ts w (Err e) = RefusesTokens limit ts e
 
 -- how many nodes the steps of a proof block take
 abbrev pub block_nodes : Option (List Tree) → ℕ

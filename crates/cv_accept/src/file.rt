@@ -6,14 +6,16 @@ ghost use Rattle.cv_syntax_trees.specs.Tree.{size};
 ghost use Rattle.cv_syntax.specs.PoolTrees.{tree_at};
 ghost use Rattle.cv_accept.specs.Accepted.{block_by, names_by};
 ghost use Rattle.cv_accept.specs.Faults.{IsBlock};
-ghost use Rattle.cv_accept.specs.Works.{HasSteps, Reads, block_nodes, content_at, content_nodes, script_in};
+ghost use Rattle.cv_accept.specs.Works.{HasSteps, Reads, ReadsTokens, block_nodes, content_at, content_nodes, script_in};
 
 use crate::error::FileError;
+use crate::numbers::told;
 use crate::scoping::check_game;
 use cv_directory::Directory;
 use cv_group::check_all;
 use cv_lex::Tokens;
 use cv_library::tokens_given;
+use cv_oracles::read_source;
 use cv_parse::file;
 use cv_query_form::check as check_queries;
 use cv_script::Step;
@@ -80,6 +82,35 @@ fn read_block(
     }
 }
 
+/// Fills an empty work with what these tokens say, where they are a file.
+fn fill_by(alloc: Global, work: &mut Work, tokens: &Tokens) -> Result<Accepted, FileError>
+    requires names { work.old.names ≡ [] }
+    requires decls { work.old.decls.list ≡ [] }
+    requires trees { work.old.pool.trees ≡ [] }
+    requires limit { work.old.pool.limit < 4294967295 }
+    requires few { length tokens.now ≤ 16777216 }
+    ensures reads { ReadsTokens work.old.pool.limit tokens.now work.new result }
+    ensures live { IfOk result (λ f. f.file.game.root.0 < length work.new.pool.trees) }
+    ensures fits { IfOk result (λ f. size (tree_at work.new.pool.trees (Some f.file.game.root))
+        ≤ 50000) }
+    ensures nodes { IfOk result (λ f. length work.new.pool.trees
+        ≤ content_nodes (content_at work.new f.file.game.root f.script)) }
+    ensures steps { IfOk result (λ f. IfSome f.script (λ s.
+        HasSteps work.new.pool.limit work.new.pool.trees s.items)) }
+    ensures limit { work.new.pool.limit ≡ work.old.pool.limit }
+    ensures below { OnOk result (All (IsBelow (length work.new.pool.trees)) work.new.decls.list) }
+{
+    let _tokens = tokens.len();
+    let file = file(alloc, work, tokens)?;
+    let script = read_block(alloc, work, tokens, file.script)?;
+    let directory = Directory::of(alloc, &work.pool, &work.decls, file.game.root)?;
+    let (nodes, directory) = check_types(alloc, work, &file, directory)?;
+    let directory = check_game(alloc, work, file.game, nodes, directory)?;
+    check_all(alloc, work)?;
+    check_queries(alloc, work, file.game, &directory)?;
+    Ok(Accepted { file, script })
+}
+
 /// Fills an empty work with what is given, where it is a file.
 fn fill(
     alloc: Global,
@@ -105,16 +136,12 @@ fn fill(
     ensures limit { work.new.pool.limit ≡ work.old.pool.limit }
     ensures below { OnOk result (All (IsBelow (length work.new.pool.trees)) work.new.decls.list) }
 {
-    let tokens = tokens_given(alloc, bytes, library)?;
-    let _tokens = tokens.len();
-    let file = file(alloc, work, &tokens)?;
-    let script = read_block(alloc, work, &tokens, file.script)?;
-    let directory = Directory::of(alloc, &work.pool, &work.decls, file.game.root)?;
-    let (nodes, directory) = check_types(alloc, work, &file, directory)?;
-    let directory = check_game(alloc, work, file.game, nodes, directory)?;
-    check_all(alloc, work)?;
-    check_queries(alloc, work, file.game, &directory)?;
-    Ok(Accepted { file, script })
+    let given = tokens_given(alloc, bytes, library)?;
+    let source = read_source(alloc, given)?;
+    match fill_by(alloc, work, &source.tokens) {
+        Ok(file) => Ok(file),
+        Err(fault) => Err(told(&source, fault)),
+    }
 }
 
 /// Reads a file into an empty work, expanded by a library where one is given, and sets how many names are its own. Where

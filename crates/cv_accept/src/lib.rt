@@ -4,6 +4,7 @@
 mod error;
 mod file;
 mod laws;
+mod numbers;
 mod scoping;
 
 pub use error::FileError;

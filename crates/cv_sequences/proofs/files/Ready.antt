@@ -18,8 +18,8 @@ use Rattle.cv_parse_sorts.proofs.NamedGames.{functions_and_cells_named}
 use Rattle.cv_parse_sorts.proofs.TypedRuns.{last_typed}
 use Rattle.cv_accept.specs.Accepted.{Content, IsFile, read_of, most_pool, most_bytes}
 use Rattle.cv_accept.proofs.Blocks.{few_names}
+use Rattle.cv_accept.proofs.Fewness.{few_tokens_read}
 use Rattle.cv_library.specs.Givens.{Given}
-use Rattle.cv_library.proofs.Lengths.{few_given}
 use Rattle.cv_accept.proofs.Readings.{accepted, read_is_file}
 use Rattle.cv_meaning.specs.Advantage.{IsAsked}
 use Rattle.cv_meaning.specs.Experiments.{Experiment, mode_of}
@@ -173,7 +173,7 @@ module _ (source : Given) (c : Content) (reads : read_of most_pool source ≡ Ok
     known_queries = as_said (λ ds own game. KnowsQueries (file_scene ds own game)) (queries_known most_pool file.tokens file.said file.says);
     known_constants = as_said (λ ds own game. KnowsConstants (file_scene ds own game)) (constants_known most_pool file.tokens file.said file.says);
     names = as_said (λ ds own game. own ≤ first_answer) (
-        let t = few_given source file.tokens few file.lexed in
+        let t = few_tokens_read source file.tokens few file.lexed in
         let n = few_names file.tokens in
         omega arith
         );

@@ -1,225 +1,46 @@
-use Rattle.std.proofs.Common.{ap, arith, subst, sym, ◌≤◌, ◌∙◌, length, Ok, Err, All}
-use Rattle.std.specs.Prelude.{option_map}
-use Rattle.cv_parse_tables.specs.terminals.Signs.{signs_of}
-use Rattle.cv_syntax_trees.specs.Tree.{size}
-use Rattle.cv_parse.specs.Declaring.{IsBelow}
-use Rattle.cv_parse.specs.Nodes.{file_nodes}
-use Rattle.cv_parse.specs.Parsed.{held_in}
-use Rattle.cv_scope_rules.specs.Refusals.{IsRefusalOf}
-use Rattle.cv_scope_rules.specs.Scope.{first_scope_fault}
-use Rattle.cv_accept.specs.Accepted.{content_of}
-use Rattle.cv_accept.specs.Places.{behind}
-use Rattle.cv_accept.proofs.Blocks.{below_grown, block_as, content_same, few_names, held_grown, root_grown}
+use Rattle.std.proofs.Common.{◌≡◌, subst, sym, ◌∙◌, arith}
+use Rattle.std.specs.Prelude.{option_map, Ok}
 use Rattle.cv_library.specs.Givens.{given_by}
 use Rattle.cv_library.proofs.Givens.{computed}
-use Rattle.cv_library.proofs.Lengths.{few_given}
-use Rattle.cv_accept.proofs.Places.{none_behind, process_begins}
-use Rattle.cv_accept.proofs.Readings.{all_reads, block_refuses, block_within, by_block, by_groups, by_scope, by_types, grammar_refuses, group_refuses, lexis_refuses, query_refuses, reads_on, scope_refuses, types_refuse}
-use Rattle.cv_accept.proofs.Weights.{few_terms}
+use Rattle.cv_oracles.specs.Translations.{number_by, number_in}
+use Rattle.cv_accept.specs.Accepted.{Refuses, RefusesTokens}
+use Rattle.cv_accept.specs.Numbers.{told}
+use Rattle.cv_accept.specs.Works.{ReadsTokens}
+use Rattle.cv_accept.proofs.Readings.{lexis_refuses, reads_given, reads_none, refuses_given}
+use Rattle.cv_accept.proofs.Fewness.{few_tokens_read}
 use Rattle.cv_accept.proofs.file.fill.Goals as goal
 
-pub returns-in_err-tokens-clause-reads : goal.returns-in_err-tokens-clause-reads
-returns-in_err-tokens-clause-reads c = reads_on c.args.work.now.pool.limit (given_by c.args.bytes.now (option_map (λ more. more.now) c.args.library)) c.args.work.now _ _ c.from_residual.ensures.1 (lexis_refuses c.args.work.now.pool.limit (given_by c.args.bytes.now (option_map (λ more. more.now) c.args.library)) _ c.in_err-tokens.ensures.err)
-
-pub returns-in_err-file-clause-reads : goal.returns-in_err-file-clause-reads
-returns-in_err-file-clause-reads c = reads_on c.args.work.now.pool.limit (given_by c.args.bytes.now (option_map (λ more. more.now) c.args.library)) c.file.new.work _ _ c.from_residual-in_err-file.ensures.1 (grammar_refuses c.args.work.now.pool.limit (given_by c.args.bytes.now (option_map (λ more. more.now) c.args.library)) _ _ c.in_ok-tokens.ensures.ok c.in_err-file.ensures.parses)
-
-pub file-requires-clause-few : goal.file-requires-clause-few
-file-requires-clause-few c =
-    let tokens = few_given (given_by c.args.bytes.now (option_map (λ more. more.now) c.args.library)) c.in_ok-tokens.tokens c.requires.few (computed (given_by c.args.bytes.now (option_map (λ more. more.now) c.args.library)) c.in_ok-tokens.tokens c.in_ok-tokens.ensures.ok) in
-    omega arith
-
-pub read_block-requires-clause-within : goal.read_block-requires-clause-within
-read_block-requires-clause-within c = block_within c.args.work.now.pool.limit _ _ c.len-tokens.ensures.tokens c.in_ok-file.ensures.parses
-
-pub read_block-requires-clause-few : goal.read_block-requires-clause-few
-read_block-requires-clause-few c =
-    let few = few_names c.in_ok-tokens.tokens in
-    let tokens = few_given (given_by c.args.bytes.now (option_map (λ more. more.now) c.args.library)) c.in_ok-tokens.tokens c.requires.few (computed (given_by c.args.bytes.now (option_map (λ more. more.now) c.args.library)) c.in_ok-tokens.tokens c.in_ok-tokens.ensures.ok) in
-    let same = ap length c.in_ok-file.ensures.names in
-    omega (arith, few, tokens, same, c.requires.few)
-
-pub returns-in_err-script-clause-reads : goal.returns-in_err-script-clause-reads
-returns-in_err-script-clause-reads c =
+pub returns-in_err-given-clause-reads : goal.returns-in_err-given-clause-reads
+returns-in_err-given-clause-reads c =
     let limit = c.args.work.now.pool.limit in
-    let bs = given_by c.args.bytes.now (option_map (λ more. more.now) c.args.library) in
-    let f = c.in_ok-file.file in
-    let ts = c.in_ok-tokens.tokens in
-    let old = c.file.new.work in
-    let trees = c.read_block.new.work.pool.trees in
-    let block = block_as old.pool.limit limit (length old.pool.trees) ts old.names (signs_of ts).names f.script trees (Err _) c.file.ensures.limit c.in_ok-file.ensures.names c.in_err-script.ensures.reads in
-    reads_on limit bs c.read_block.new.work _ _ c.from_residual-in_err-script.ensures.1
-    (block_refuses limit (length old.pool.trees) bs ts (held_in old.pool.trees old.decls.list f) c.in_ok-tokens.ensures.ok c.in_ok-file.ensures.parses trees _ c.in_ok-file.ensures.nodes block)
+    let g = given_by c.args.bytes.now (option_map (λ more. more.now) c.args.library) in
+    reads_none limit g c.args.work.now _ _ c.from_residual.ensures.1 (lexis_refuses limit g _ c.in_err-given.ensures.err)
 
-pub check-requires-clause-declared : goal.check-requires-clause-declared
-check-requires-clause-declared c =
-    let old = c.file.new.work in
-    let new = c.read_block.new.work in
-    below_grown old.pool new.pool new.decls.list c.read_block.ensures.grows (subst (λ ds. All (IsBelow (length old.pool.trees)) ds.list) (sym c.read_block.ensures.decls) c.in_ok-file.ensures.below)
-
-pub check_game-requires-clause-declared : goal.check_game-requires-clause-declared
-check_game-requires-clause-declared c =
-    let old = c.file.new.work in
-    let new = c.read_block.new.work in
-    below_grown old.pool new.pool new.decls.list c.read_block.ensures.grows (subst (λ ds. All (IsBelow (length old.pool.trees)) ds.list) (sym c.read_block.ensures.decls) c.in_ok-file.ensures.below)
-
-pub check_all-requires : goal.check_all-requires
-check_all-requires c =
-    let old = c.file.new.work in
-    let new = c.read_block.new.work in
-    below_grown old.pool new.pool new.decls.list c.read_block.ensures.grows (subst (λ ds. All (IsBelow (length old.pool.trees)) ds.list) (sym c.read_block.ensures.decls) c.in_ok-file.ensures.below)
-
-pub check-requires-2-clause-declared : goal.check-requires-2-clause-declared
-check-requires-2-clause-declared c =
-    let old = c.file.new.work in
-    let new = c.read_block.new.work in
-    below_grown old.pool new.pool new.decls.list c.read_block.ensures.grows (subst (λ ds. All (IsBelow (length old.pool.trees)) ds.list) (sym c.read_block.ensures.decls) c.in_ok-file.ensures.below)
-
-pub returns-clause-below : goal.returns-clause-below
-returns-clause-below c =
-    let old = c.file.new.work in
-    let new = c.read_block.new.work in
-    below_grown old.pool new.pool new.decls.list c.read_block.ensures.grows (subst (λ ds. All (IsBelow (length old.pool.trees)) ds.list) (sym c.read_block.ensures.decls) c.in_ok-file.ensures.below)
-
-pub check-requires-clause-fits : goal.check-requires-clause-fits
-check-requires-clause-fits c =
+pub returns-in_err-source-clause-reads : goal.returns-in_err-source-clause-reads
+returns-in_err-source-clause-reads c =
     let limit = c.args.work.now.pool.limit in
-    let bs = given_by c.args.bytes.now (option_map (λ more. more.now) c.args.library) in
-    let ts = c.in_ok-tokens.tokens in
-    let f = c.in_ok-file.file in
-    let old = c.file.new.work in
-    let new = c.read_block.new.work in
-    let p = held_in new.pool.trees new.decls.list f in
-    let same = ap (λ ds. held_in new.pool.trees ds.list f) c.read_block.ensures.decls ∙ held_grown old.pool new.pool old.decls.list f c.read_block.ensures.grows c.in_ok-file.ensures.below c.in_ok-file.ensures.live in
-    let parses = c.in_ok-file.ensures.parses ∙ ap Ok (sym same) in
-    few_terms limit (signs_of ts).signs p c.requires.limit parses
+    let g = given_by c.args.bytes.now (option_map (λ more. more.now) c.args.library) in
+    reads_none limit g c.args.work.now _ _ c.from_residual-in_err-source.ensures.1 tt
 
-pub check_game-requires-clause-fits : goal.check_game-requires-clause-fits
-check_game-requires-clause-fits c =
-    let limit = c.args.work.now.pool.limit in
-    let bs = given_by c.args.bytes.now (option_map (λ more. more.now) c.args.library) in
-    let ts = c.in_ok-tokens.tokens in
-    let f = c.in_ok-file.file in
-    let old = c.file.new.work in
-    let new = c.read_block.new.work in
-    let p = held_in new.pool.trees new.decls.list f in
-    let same = ap (λ ds. held_in new.pool.trees ds.list f) c.read_block.ensures.decls ∙ held_grown old.pool new.pool old.decls.list f c.read_block.ensures.grows c.in_ok-file.ensures.below c.in_ok-file.ensures.live in
-    let parses = c.in_ok-file.ensures.parses ∙ ap Ok (sym same) in
-    let few = few_terms limit (signs_of ts).signs p c.requires.limit parses in
-    omega (arith, few, c.in_ok-nodes.ensures.place)
+pub fill_by-requires-clause-few : goal.fill_by-requires-clause-few
+fill_by-requires-clause-few c =
+    let g = given_by c.args.bytes.now (option_map (λ more. more.now) c.args.library) in
+    let few = few_tokens_read g c.in_ok-source.source.tokens c.requires.few (record { source = c.in_ok-given.given; lexed = computed g c.in_ok-given.given c.in_ok-given.ensures.ok; stand = c.in_ok-source.ensures.file }) in
+    omega (arith, few)
 
-pub returns-in_err-nodes-clause-reads : goal.returns-in_err-nodes-clause-reads
-returns-in_err-nodes-clause-reads c =
+pub returns-in-Ok-clause-reads : goal.returns-in-Ok-clause-reads
+returns-in-Ok-clause-reads c =
     let limit = c.args.work.now.pool.limit in
-    let bs = given_by c.args.bytes.now (option_map (λ more. more.now) c.args.library) in
-    let ts = c.in_ok-tokens.tokens in
-    let f = c.in_ok-file.file in
-    let old = c.file.new.work in
-    let new = c.read_block.new.work in
-    let p = held_in new.pool.trees new.decls.list f in
-    let same = ap (λ ds. held_in new.pool.trees ds.list f) c.read_block.ensures.decls ∙ held_grown old.pool new.pool old.decls.list f c.read_block.ensures.grows c.in_ok-file.ensures.below c.in_ok-file.ensures.live in
-    let parses = c.in_ok-file.ensures.parses ∙ ap Ok (sym same) in
-    let block = block_as old.pool.limit limit (length old.pool.trees) ts old.names (signs_of ts).names f.script new.pool.trees (Ok c.in_ok-script.script) c.file.ensures.limit c.in_ok-file.ensures.names c.in_ok-script.ensures.reads in
-    let content = content_of ts p block.0 in
-    let read = by_block limit (length old.pool.trees) bs ts p c.in_ok-tokens.ensures.ok parses block.0 block.1 in
-    reads_on limit bs new _ _ c.from_residual-in_err-nodes.ensures.1 (types_refuse limit bs content p _ read c.in_err-nodes.ensures.found)
-
-pub returns-in_err-directory-2-clause-reads : goal.returns-in_err-directory-2-clause-reads
-returns-in_err-directory-2-clause-reads c =
-    let limit = c.args.work.now.pool.limit in
-    let bs = given_by c.args.bytes.now (option_map (λ more. more.now) c.args.library) in
-    let ts = c.in_ok-tokens.tokens in
-    let f = c.in_ok-file.file in
-    let old = c.file.new.work in
-    let new = c.read_block.new.work in
-    let p = held_in new.pool.trees new.decls.list f in
-    let same = ap (λ ds. held_in new.pool.trees ds.list f) c.read_block.ensures.decls ∙ held_grown old.pool new.pool old.decls.list f c.read_block.ensures.grows c.in_ok-file.ensures.below c.in_ok-file.ensures.live in
-    let parses = c.in_ok-file.ensures.parses ∙ ap Ok (sym same) in
-    let block = block_as old.pool.limit limit (length old.pool.trees) ts old.names (signs_of ts).names f.script new.pool.trees (Ok c.in_ok-script.script) c.file.ensures.limit c.in_ok-file.ensures.names c.in_ok-script.ensures.reads in
-    let content = content_of ts p block.0 in
-    let read = by_block limit (length old.pool.trees) bs ts p c.in_ok-tokens.ensures.ok parses block.0 block.1 in
-    let typed = by_types limit bs content p read c.in_ok-nodes.ensures.none in
-    let begins = process_begins p.declarations p.game c.in_ok-nodes.nodes c.in_ok-nodes.ensures.place in
-    let found = subst (λ n. IsRefusalOf (behind n (first_scope_fault p.declarations p.game)) c.in_err-directory-2.field-0.0) begins c.in_err-directory-2.ensures.found in
-    reads_on limit bs new _ _ c.from_residual-in_err-directory-2.ensures.1 (scope_refuses limit bs content p _ typed found)
-
-pub returns-in_err-check_all-clause-reads : goal.returns-in_err-check_all-clause-reads
-returns-in_err-check_all-clause-reads c =
-    let limit = c.args.work.now.pool.limit in
-    let bs = given_by c.args.bytes.now (option_map (λ more. more.now) c.args.library) in
-    let ts = c.in_ok-tokens.tokens in
-    let f = c.in_ok-file.file in
-    let old = c.file.new.work in
-    let new = c.read_block.new.work in
-    let p = held_in new.pool.trees new.decls.list f in
-    let same = ap (λ ds. held_in new.pool.trees ds.list f) c.read_block.ensures.decls ∙ held_grown old.pool new.pool old.decls.list f c.read_block.ensures.grows c.in_ok-file.ensures.below c.in_ok-file.ensures.live in
-    let parses = c.in_ok-file.ensures.parses ∙ ap Ok (sym same) in
-    let block = block_as old.pool.limit limit (length old.pool.trees) ts old.names (signs_of ts).names f.script new.pool.trees (Ok c.in_ok-script.script) c.file.ensures.limit c.in_ok-file.ensures.names c.in_ok-script.ensures.reads in
-    let content = content_of ts p block.0 in
-    let read = by_block limit (length old.pool.trees) bs ts p c.in_ok-tokens.ensures.ok parses block.0 block.1 in
-    let typed = by_types limit bs content p read c.in_ok-nodes.ensures.none in
-    let scoped = by_scope limit bs content p typed (none_behind _ (first_scope_fault p.declarations p.game) c.in_ok-directory-2.ensures.none) in
-    reads_on limit bs new _ _ c.from_residual-in_err-check_all.ensures.1 (group_refuses limit bs content p _ _ scoped c.in_err-check_all.ensures.fault)
-
-pub returns-in_err-check-clause-reads : goal.returns-in_err-check-clause-reads
-returns-in_err-check-clause-reads c =
-    let limit = c.args.work.now.pool.limit in
-    let bs = given_by c.args.bytes.now (option_map (λ more. more.now) c.args.library) in
-    let ts = c.in_ok-tokens.tokens in
-    let f = c.in_ok-file.file in
-    let old = c.file.new.work in
-    let new = c.read_block.new.work in
-    let p = held_in new.pool.trees new.decls.list f in
-    let same = ap (λ ds. held_in new.pool.trees ds.list f) c.read_block.ensures.decls ∙ held_grown old.pool new.pool old.decls.list f c.read_block.ensures.grows c.in_ok-file.ensures.below c.in_ok-file.ensures.live in
-    let parses = c.in_ok-file.ensures.parses ∙ ap Ok (sym same) in
-    let block = block_as old.pool.limit limit (length old.pool.trees) ts old.names (signs_of ts).names f.script new.pool.trees (Ok c.in_ok-script.script) c.file.ensures.limit c.in_ok-file.ensures.names c.in_ok-script.ensures.reads in
-    let content = content_of ts p block.0 in
-    let read = by_block limit (length old.pool.trees) bs ts p c.in_ok-tokens.ensures.ok parses block.0 block.1 in
-    let typed = by_types limit bs content p read c.in_ok-nodes.ensures.none in
-    let scoped = by_scope limit bs content p typed (none_behind _ (first_scope_fault p.declarations p.game) c.in_ok-directory-2.ensures.none) in
-    let plain = by_groups limit bs content p scoped c.in_ok-check_all.ensures.none in
-    reads_on limit bs new _ _ c.from_residual-in_err-check.ensures.1 (query_refuses limit bs content p _ plain c.in_err-check.ensures.found)
+    let g = given_by c.args.bytes.now (option_map (λ more. more.now) c.args.library) in
+    let w = c.fill_by.new.work in
+    reads_given limit g c.in_ok-given.given c.in_ok-given.ensures.ok w c.in-Ok.file (subst (λ ts. ReadsTokens limit ts w (Ok c.in-Ok.file)) c.in_ok-source.ensures.file c.in-Ok.ensures.reads)
 
 pub returns-clause-reads : goal.returns-clause-reads
 returns-clause-reads c =
     let limit = c.args.work.now.pool.limit in
-    let bs = given_by c.args.bytes.now (option_map (λ more. more.now) c.args.library) in
-    let ts = c.in_ok-tokens.tokens in
-    let f = c.in_ok-file.file in
-    let old = c.file.new.work in
-    let new = c.read_block.new.work in
-    let p = held_in new.pool.trees new.decls.list f in
-    let same = ap (λ ds. held_in new.pool.trees ds.list f) c.read_block.ensures.decls ∙ held_grown old.pool new.pool old.decls.list f c.read_block.ensures.grows c.in_ok-file.ensures.below c.in_ok-file.ensures.live in
-    let parses = c.in_ok-file.ensures.parses ∙ ap Ok (sym same) in
-    let block = block_as old.pool.limit limit (length old.pool.trees) ts old.names (signs_of ts).names f.script new.pool.trees (Ok c.in_ok-script.script) c.file.ensures.limit c.in_ok-file.ensures.names c.in_ok-script.ensures.reads in
-    let content = content_of ts p block.0 in
-    let read = by_block limit (length old.pool.trees) bs ts p c.in_ok-tokens.ensures.ok parses block.0 block.1 in
-    let typed = by_types limit bs content p read c.in_ok-nodes.ensures.none in
-    let scoped = by_scope limit bs content p typed (none_behind _ (first_scope_fault p.declarations p.game) c.in_ok-directory-2.ensures.none) in
-    let plain = by_groups limit bs content p scoped c.in_ok-check_all.ensures.none in
-    let own = ap (λ ds. ds.own) c.read_block.ensures.decls ∙ c.in_ok-file.ensures.own in
-    let is = content_same ts new f c.in_ok-script.script old.names block.0 c.in_ok-file.ensures.names c.in_ok-script.ensures.names own block.2 in
-    all_reads limit bs content p new (record { file = f; script = c.in_ok-script.script }) plain c.in_ok-check.ensures.none is
-
-pub returns-clause-fits : goal.returns-clause-fits
-returns-clause-fits c =
-    let old = c.file.new.work in
-    let new = c.read_block.new.work in
-    let f = c.in_ok-file.file in
-    let same = root_grown old.pool new.pool f.game.root c.read_block.ensures.grows c.in_ok-file.ensures.live in
-    subst (λ t. size t ≤ 50000) (sym same) c.in_ok-file.ensures.fits
-
-pub returns-clause-nodes : goal.returns-clause-nodes
-returns-clause-nodes c =
-    let limit = c.args.work.now.pool.limit in
-    let bs = given_by c.args.bytes.now (option_map (λ more. more.now) c.args.library) in
-    let ts = c.in_ok-tokens.tokens in
-    let f = c.in_ok-file.file in
-    let old = c.file.new.work in
-    let new = c.read_block.new.work in
-    let p = held_in new.pool.trees new.decls.list f in
-    let same = ap (λ ds. held_in new.pool.trees ds.list f) c.read_block.ensures.decls ∙ held_grown old.pool new.pool old.decls.list f c.read_block.ensures.grows c.in_ok-file.ensures.below c.in_ok-file.ensures.live in
-    let parses = c.in_ok-file.ensures.parses ∙ ap Ok (sym same) in
-    let few = c.in_ok-script.ensures.few in
-    let nodes = subst (λ q. length old.pool.trees ≤ file_nodes q.declarations q.game) (sym same) c.in_ok-file.ensures.nodes in
-    omega (arith, few, nodes)
+    let g = given_by c.args.bytes.now (option_map (λ more. more.now) c.args.library) in
+    let ts = c.in_ok-given.given in
+    let s = c.in_ok-source in
+    let e = c.in-Err.fault in
+    let same : told (number_by s.source.numbered s.source.tokens) e ≡ told (number_in ts) e = (λ i. told (number_by (s.ensures.numbers i) (s.ensures.file i)) e) in
+    subst (Refuses limit g) (sym (c.told.ensures ∙ same)) (refuses_given limit g ts c.in_ok-given.ensures.ok e (subst (λ us. RefusesTokens limit us e) s.ensures.file c.in-Err.ensures.reads))

@@ -1,0 +1,5 @@
+mod Framing
+mod Putting
+mod Written
+mod Walking
+pub mod Lengths
