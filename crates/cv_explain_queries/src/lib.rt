@@ -1,0 +1,8 @@
+// Why a query is open: what is known at the places of its left event, and what isn't.
+#![tactic(auto)]
+
+mod closed;
+mod opens;
+mod places;
+
+pub use opens::say_open;
