@@ -1,4 +1,6 @@
 // Faults of lexis, grammar and names.
+ghost use Rattle.std.specs.Prelude.{◌<◌, length};
+
 use cv_explain_source::{Page, Source, Text, entry_of};
 use cv_lex::{LexError, Tokens, tokens};
 use cv_parse::{ParseError, file};
@@ -93,11 +95,21 @@ fn may_begin(alloc: Global, tokens: &Tokens, token: u32) -> bool {
     }
 }
 
-/// Writes a token behind others.
-fn add_token(out: &mut Tokens, from: &Tokens, k: u32) -> Result<(), AllocError> {
+/// Writes a token behind others, but for the end token.
+fn add_token(out: &mut Tokens, from: &Tokens, k: u32) -> Result<(), AllocError>
+    requires room { length out.old < 4294967295 }
+{
     let len = from.len();
-    if k < len && k + 1 < len && out.len() < 4_000_000_000 {
+    if k < len && k + 1 < len {
         out.push(from.kind(k), from.text(k), from.offset(k))?;
+    }
+    Ok(())
+}
+
+/// Writes a token behind others, where there is room.
+fn put_token(out: &mut Tokens, from: &Tokens, k: u32) -> Result<(), AllocError> {
+    if out.len() < 4_000_000_000 {
+        add_token(out, from, k)?;
     }
     Ok(())
 }
@@ -112,9 +124,9 @@ fn with_word(
 ) -> Result<Tokens, AllocError> {
     let mut out = Tokens::new(alloc, 0);
     for j in 0..count {
-        add_token(&mut out, tokens, j)?;
+        put_token(&mut out, tokens, j)?;
     }
-    add_token(&mut out, words, k)?;
+    put_token(&mut out, words, k)?;
     Ok(out)
 }
 

@@ -8,4 +8,4 @@ pub push-requires-clause-token : goal.push-requires-clause-token
 push-requires-clause-token c =
     let ts = c.args.from.now in
     subst (λ kind. IsToken kind c.text.result.now) (sym c.kind.ensures)
-    (subst (IsToken (token_at ts c.args.k).kind) (sym c.text.ensures) (inner_token ts c.len.ensures.tokens c.args.k (omega arith)))
+    (subst (IsToken (token_at ts c.args.k).kind) (sym c.text.ensures) (inner_token ts c.len-len.ensures.tokens c.args.k (omega arith)))
