@@ -40,10 +40,11 @@ fn say_checked(
     fault: FileError,
 ) -> Result<(), AllocError> {
     let mut work = Work::new(page.alloc(), MOST_NODES);
-    if text.tokens().len() >= 200_000_000 {
+    let found = text.tokens();
+    if found.len() >= 200_000_000 {
         return Ok(());
     }
-    let Ok(read) = file(page.alloc(), &mut work, text.tokens()) else {
+    let Ok(read) = file(page.alloc(), &mut work, found) else {
         return Ok(());
     };
     let positions = positions_of(page.alloc(), &work, read, text)?;
