@@ -11,6 +11,7 @@ use cv_explain_source::{Page, first_of, function_name, functions_of, items_of, o
 use cv_grounds::open;
 use cv_match::{Match, MatchFault, matches};
 use cv_match_terms::patterns::Site;
+use cv_script::{Step, StepView, view};
 use cv_syntax::children::room_left;
 use cv_syntax::{Decl, Decls, Game, Head, NameId, NodeId, Pool, Work};
 use cv_typing::Arrays;
@@ -167,8 +168,13 @@ fn say_site(page: &mut Page, work: &Work, functions: &[NodeId], site: &Site) {
 
 /// Says the instances of an equivalence.
 fn say_sites(page: &mut Page, work: &Work, pair: Pair, found: &Match) {
-    page.count(found.sites.len() as u64);
-    page.say(" instances\n");
+    let count = found.sites.len() as u64;
+    page.count(count);
+    page.say(if count == 1 {
+        " instance\n"
+    } else {
+        " instances\n"
+    });
     let functions = functions_of(page, &work.pool, left_of(&work.pool, pair.tree));
     for site in &found.sites {
         say_site(page, work, &functions, site);
@@ -257,8 +263,39 @@ fn say_calls_of(said: &mut Page, work: &Work, position: u32, found: &Match) -> b
     often
 }
 
-/// Says of functions without replication that they are called more than once a key.
-pub fn remark_pair(page: &mut Page, work: &Work, game: Game, pair: Pair) {
+/// An accepted step `crypto`: its number, and the pair of its equivalence and its key in the game before it.
+#[derive(Clone, Copy)]
+pub struct Context {
+    pub number: u32,
+    pub game: Game,
+    pub pair: Pair,
+}
+
+/// The equivalence and the key that a step `crypto` names.
+fn names_of(pool: &Pool, step: Step) -> Option<(u32, u32)> {
+    if step.0.0 >= pool.live() {
+        return None;
+    }
+    match view(pool, step) {
+        Some(StepView::Crypto { equiv, x }) => Some((equiv.0, x.0)),
+        _ => None,
+    }
+}
+
+/// The context of a step of a number in a game, where it is a step `crypto`.
+pub fn context_of(work: &Work, number: u32, game: Game, step: Step) -> Option<Context> {
+    let (equivalence, key) = names_of(&work.pool, step)?;
+    let pair = Pair {
+        equivalence,
+        tree: work.decls.equiv(NameId(equivalence))?,
+        key,
+        place: 0,
+    };
+    Some(Context { number, game, pair })
+}
+
+/// Says of functions without replication that they are called more than once a key in a game, behind words.
+fn remark_calls(page: &mut Page, words: &Page, work: &Work, game: Game, pair: Pair) {
     let Ok(Some(Ok(found))) = match_of(page.alloc(), work, game, pair) else {
         return;
     };
@@ -266,7 +303,9 @@ pub fn remark_pair(page: &mut Page, work: &Work, game: Game, pair: Pair) {
     for function in &functions_of(page, &work.pool, left_of(&work.pool, pair.tree)) {
         let mut said = Page::new(page.alloc());
         if is_single(&work.pool, *function) && say_calls_of(&mut said, work, position, &found) {
-            page.name("  equivalence ", &work.names, pair.equivalence);
+            page.say("  ");
+            page.join(words);
+            page.name("equivalence ", &work.names, pair.equivalence);
             page.name(", key ", &work.names, pair.key);
             page.name(": ", &work.names, function_name(&work.pool, *function));
             page.say(" has no replication, and is called ");
@@ -275,4 +314,37 @@ pub fn remark_pair(page: &mut Page, work: &Work, game: Game, pair: Pair) {
         }
         position = position.saturating_add(1);
     }
+}
+
+/// Says of the contexts of steps which functions without replication they call more than once a key, and then the same of the pairs of a
+/// game that are in none of them.
+pub fn remark_contexts(
+    page: &mut Page,
+    work: &Work,
+    contexts: &[Context],
+    game: Game,
+    pairs: &[Pair],
+) {
+    for context in contexts {
+        let mut words = Page::new(page.alloc());
+        words.number("context C", u64::from(context.number));
+        words.say(", ");
+        remark_calls(page, &words, work, context.game, context.pair);
+    }
+    for pair in pairs {
+        if !is_in(contexts, *pair) {
+            let words = Page::new(page.alloc());
+            remark_calls(page, &words, work, game, *pair);
+        }
+    }
+}
+
+/// Whether a context is one of a pair.
+fn is_in(contexts: &[Context], pair: Pair) -> bool {
+    for context in contexts {
+        if context.pair.equivalence == pair.equivalence && context.pair.key == pair.key {
+            return true;
+        }
+    }
+    false
 }

@@ -5,10 +5,11 @@ mod games;
 mod keys;
 mod remarks;
 mod scenes;
+mod sizes;
 mod steps;
 
 pub use games::{Listing, listing_of};
-pub use keys::{Pair, pairs_of, say_pair};
+pub use keys::{Context, Pair, context_of, pairs_of, say_pair};
 pub use remarks::say_remarks;
 pub use scenes::{Scene, is_small};
 pub use steps::say_refused;

@@ -1,6 +1,7 @@
 // Remarks that change no verdict.
-use crate::keys::{Pair, remark_pair};
+use crate::keys::{Context, Pair, remark_contexts};
 use crate::scenes::Scene;
+use crate::sizes::remark_sizes;
 use cv_explain_source::{Page, Text, nodes_of};
 use cv_grounds::Survey;
 use cv_syntax::{Class, Decl, Head, NodeId, Work};
@@ -95,13 +96,18 @@ fn remark_declarations(page: &mut Page, scene: Scene, text: &Text, pairs: &[Pair
     }
 }
 
-/// Says all remarks on a file, of whose first game this is the scene and these are the keys.
-pub fn say_remarks(page: &mut Page, scene: Scene, text: &Text, pairs: &[Pair]) {
+/// Says all remarks on a file, of whose first game this is the scene and these are the keys, and whose steps have these contexts.
+pub fn say_remarks(
+    page: &mut Page,
+    scene: Scene,
+    text: &Text,
+    pairs: &[Pair],
+    contexts: &[Context],
+) {
     let mut said = Page::new(page.alloc());
     remark_declarations(&mut said, scene, text, pairs);
-    for pair in pairs {
-        remark_pair(&mut said, scene.work, scene.game, *pair);
-    }
+    remark_sizes(&mut said, scene.work);
+    remark_contexts(&mut said, scene.work, contexts, scene.game, pairs);
     if !said.bytes().is_empty() {
         page.say("remarks, which change no verdict\n");
         page.join(&said);

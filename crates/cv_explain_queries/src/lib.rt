@@ -2,7 +2,9 @@
 #![tactic(auto)]
 
 mod closed;
+mod facts;
 mod opens;
 mod places;
 
+pub use facts::facts_of;
 pub use opens::say_open;

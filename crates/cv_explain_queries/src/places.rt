@@ -1,13 +1,10 @@
 // What is known at a place of a game: the facts and the directly defined cells that derivations may cite.
-
-use cv_derive_facts::{Fact, fact};
+use crate::facts::facts_of;
+use cv_derive_facts::Fact;
 use cv_explain_games::is_small;
 use cv_explain_source::{Page, opened, size_of, variables_of};
 use cv_grounds::{Known, Survey, open};
 use cv_syntax::{Game, Head, NodeId, Opened, Pool, Work};
-
-/// The most facts of a place that are shown.
-const MOST_FACTS: u32 = 100;
 
 /// A variable that is bound above a place, and how many replications stand above what binds it.
 #[derive(Clone, Copy)]
@@ -122,13 +119,13 @@ pub fn say_facts(page: &mut Page, work: &Work, game: Game, place: u32, above: &A
     if !is_small(&work.pool, game) {
         return;
     }
-    for k in 1..MOST_FACTS {
-        let Some(known) = fact(work, game, place, k) else {
-            return;
-        };
-        page.number("    fact ", u64::from(k));
+    let found = facts_of(page.alloc(), work, game, place);
+    let mut number = 0_u64;
+    for known in &page.took(found) {
+        number = number.saturating_add(1);
+        page.number("    fact ", number);
         page.say("  ");
-        say_fact(page, work, above, known);
+        say_fact(page, work, above, *known);
         page.say("\n");
     }
 }

@@ -152,17 +152,22 @@ fn say_event_arity(page: &mut Page, known: Known, wanted: u32) -> bool {
     }
 }
 
-/// Says something of a node of a file, where it stands.
+/// Says something of a node of a file: at its own word, or at that where the text leaves the node out.
 fn point_node(page: &mut Page, known: Known, at: Located, said: &Page) {
-    match known.positions.token(at.number) {
-        Some(token) => known.source.point(page, known.text.offset(token), said),
-        None => {
-            page.say(known.source.name);
-            page.say(": ");
-            page.join(said);
-            page.say("\n");
-        }
+    let names = &known.work.names;
+    let own = known
+        .positions
+        .own_token(known.text, names, at.node.head, at.number);
+    let near = known.positions.token(at.number).unwrap_or(0);
+    let mut words = Page::new(page.alloc());
+    words.join(said);
+    if own.is_none() {
+        words.say("; the text leaves ");
+        words.quote_term(known.work, at.term);
+        words.say(" out here");
     }
+    let byte = known.text.offset(own.unwrap_or(near));
+    known.source.point(page, byte, &words);
 }
 
 /// Says which rule of types a node breaks.

@@ -1,8 +1,8 @@
 // Faults of lexis, grammar and names.
-ghost use Rattle.std.specs.Prelude.{◌<◌, length};
-
+use crate::oracle::{first_tokens, put_token};
 use cv_explain_source::{Page, Source, Text, entry_of};
 use cv_lex::{LexError, Tokens, tokens};
+use cv_oracles::read_source;
 use cv_parse::{ParseError, file};
 use cv_syntax::Work;
 use std::alloc::{AllocError, Global};
@@ -20,6 +20,9 @@ fixed large bounded const fun data compos event equation forall collision new eq
 secret secret1 inj let in if then else find orfind suchthat yield out defined not true
 false bool cases";
 
+/// The symbols and the reserved words that oracle files have besides.
+const TERMINALS_OF_ORACLES: &str = "oracles foreach do end return := <-";
+
 /// What the first token of a name declares, by the word before it.
 const DECLARED: &str = "param: a parameter
 channel: a channel
@@ -32,10 +35,12 @@ equiv: an equivalence
 collision: an equivalence
 new: a variable
 let: a variable
-!: an index";
+!: an index
+foreach: an index";
 
 /// What the place of a name asks for, by the word before it.
 const WANTED: &str = ":: a type
+R: a type
 event: an event
 <=: a parameter";
 
@@ -83,35 +88,28 @@ pub fn say_lexis(page: &mut Page, source: Source, fault: LexError) {
     source.point(page, byte as usize, &said);
 }
 
-/// Whether a file may begin with tokens, whatever stands behind them.
-fn may_begin(alloc: Global, tokens: &Tokens, token: u32) -> bool {
+/// The token through which no file goes, where these are the tokens of none.
+fn dead_token(alloc: Global, tokens: &Tokens) -> Option<u32> {
     if tokens.len() >= 200_000_000 {
-        return false;
+        return Some(0);
     }
     let mut work = Work::new(alloc, ROOM);
     match file(alloc, &mut work, tokens) {
-        Err(ParseError::Syntax(k) | ParseError::Nesting(k)) => k > token,
-        _ => true,
+        Err(ParseError::Syntax(k) | ParseError::Nesting(k)) => Some(k),
+        _ => None,
     }
 }
 
-/// Writes a token behind others, but for the end token.
-fn add_token(out: &mut Tokens, from: &Tokens, k: u32) -> Result<(), AllocError>
-    requires room { length out.old < 4294967295 }
-{
-    let len = from.len();
-    if k < len && k + 1 < len {
-        out.push(from.kind(k), from.text(k), from.offset(k))?;
+/// Whether a file may begin with tokens, whatever stands behind them.
+fn may_begin(said: &mut Page, tokens: Tokens, token: u32) -> bool {
+    let read = read_source(said.alloc(), tokens);
+    let Some(source) = said.got(read) else {
+        return false;
+    };
+    match dead_token(said.alloc(), &source.tokens) {
+        Some(k) => source.number(k) > token,
+        None => true,
     }
-    Ok(())
-}
-
-/// Writes a token behind others, where there is room.
-fn put_token(out: &mut Tokens, from: &Tokens, k: u32) -> Result<(), AllocError> {
-    if out.len() < 4_000_000_000 {
-        add_token(out, from, k)?;
-    }
-    Ok(())
 }
 
 /// The first tokens of a file, with a word behind them.
@@ -122,11 +120,8 @@ fn with_word(
     words: &Tokens,
     k: u32,
 ) -> Result<Tokens, AllocError> {
-    let mut out = Tokens::new(alloc, 0);
-    for j in 0..count {
-        put_token(&mut out, tokens, j)?;
-    }
-    put_token(&mut out, words, k)?;
+    let mut out = first_tokens(alloc, tokens, count)?;
+    put_token(&mut out, words, k, 0)?;
     Ok(out)
 }
 
@@ -134,33 +129,52 @@ fn with_word(
 fn may_follow(said: &mut Page, text: &Text, token: u32, words: &Tokens, k: u32) -> bool {
     let asked = with_word(said.alloc(), text.tokens(), token, words, k);
     match said.got(asked) {
-        Some(tokens) => may_begin(said.alloc(), &tokens, token),
+        Some(tokens) => may_begin(said, tokens, token),
         None => false,
     }
 }
 
 /// Says one of the words that may stand in a place.
 fn say_word(said: &mut Page, words: &Tokens, k: u32) {
-    match k {
-        0 => said.say("a name"),
-        1 => said.say("a number"),
-        _ if k < words.len() => said.quoted(words.text(k)),
-        _ => {}
+    if k < words.len() {
+        match words.text(k) {
+            "x" => said.say("a name"),
+            "0" => said.say("a number"),
+            word => said.quoted(word),
+        }
     }
 }
 
-/// Says what could stand in the place of a token.
-fn say_possible(said: &mut Page, text: &Text, token: u32) {
-    let Ok(words) = tokens(said.alloc(), TERMINALS.as_bytes()) else {
-        return;
-    };
-    let mut mark = "; here could stand ";
+/// Says behind a mark which of some words could stand in the place of a token, and gives the mark of the next one.
+fn say_possible_of(
+    said: &mut Page,
+    text: &Text,
+    token: u32,
+    words: &Tokens,
+    mark: &'static str,
+) -> &'static str {
+    let mut mark = mark;
     for k in 0..words.len().saturating_sub(1) {
-        if may_follow(said, text, token, &words, k) {
+        if may_follow(said, text, token, words, k) {
             said.say(mark);
-            say_word(said, &words, k);
+            say_word(said, words, k);
             mark = ", ";
         }
+    }
+    mark
+}
+
+/// Says what could stand in the place of a token. A name stands for itself in each file, and so does a number.
+fn say_possible(said: &mut Page, text: &Text, token: u32) {
+    let (Ok(words), Ok(more)) = (
+        tokens(said.alloc(), TERMINALS.as_bytes()),
+        tokens(said.alloc(), TERMINALS_OF_ORACLES.as_bytes()),
+    ) else {
+        return;
+    };
+    let mark = say_possible_of(said, text, token, &words, "; here could stand ");
+    if token == 0 || text.is(0, "oracles") {
+        let _mark = say_possible_of(said, text, token, &more, mark);
     }
 }
 
@@ -253,7 +267,7 @@ pub fn say_grammar(page: &mut Page, source: Source, text: &Text, fault: ParseErr
         ParseError::NameUnknown(token) => {
             say_unknown(&mut said, text, token);
             if !say_first(&mut said, source, text, token) {
-                said.say("; a name is declared before it is used, and no declaration has it");
+                said.say("; a name is declared before it is used, and this one isn't");
             }
             token
         }

@@ -2,6 +2,7 @@
 // stands behind its left operand.
 use crate::locating::{first_of, opened, second_of};
 use crate::tokens::Text;
+use crate::words::{is_own_word, word_of};
 use cv_grounds::{items, nodes_up_to, open};
 use cv_syntax::{Decl, Decls, File, Head, NameId, Names, NodeId, Opened, Pool, Work};
 use std::alloc::{AllocError, Global};
@@ -35,9 +36,28 @@ pub struct Positions {
 }
 
 impl Positions {
+    ghost use Rattle.std.specs.Prelude.{◌≡◌, ◌↔◌, ℕ, Some, None, slice_get, unwrap_or};
+    ghost use Rattle.cv_explain_source.specs.Words.{IsOwnToken};
+
     /// The token of a node, where it is known: that of the node's own word, or of what stands for a node that the text leaves out.
-    pub fn token(&self, node: u32) -> Option<u32> {
+    pub fn token(&self, node: u32) -> Option<u32>
+        ensures { result ≡ unwrap_or (slice_get self.now.found.items node) None }
+    {
         self.found.get(node as usize).copied().unwrap_or(None)
+    }
+
+    /// The token of a node of this number with this head, where it is the node's own word; none where the text leaves the node out.
+    pub fn own_token(&self, text: &Text, names: &Names, head: Head, node: u32) -> Option<u32>
+        ensures { (k : ℕ) → result ≡ Some k
+            ↔ ((unwrap_or (slice_get self.now.found.items node) None ≡ Some k)
+            × IsOwnToken names.now head text.now.tokens k) }
+    {
+        let token = self.token(node)?;
+        if token < text.len().saturating_sub(1) && is_own_word(names, head, text.word(token)) {
+            Some(token)
+        } else {
+            None
+        }
     }
 
     /// The token of an event of a query, by its number among the events of all queries, counted from 0.
@@ -60,32 +80,14 @@ struct Walk<'a> {
     is_cut: bool,
 }
 
-/// The word of a node that begins it, with how many tokens behind the word name what the node binds.
-fn own_word(head: Head) -> Option<(&'static str, u32)> {
+/// How many tokens behind the word of a construct name what it binds, where its word begins it.
+fn names_behind(head: Head) -> Option<u32> {
     match head {
-        Head::Stop => Some(("0", 0)),
-        Head::Yield => Some(("yield", 0)),
-        Head::Repl(_, _) => Some(("!", 3)),
-        Head::In(_) => Some(("in", 2)),
-        Head::Out(_) => Some(("out", 2)),
-        Head::New(_, _) => Some(("new", 3)),
-        Head::Let(_, _) => Some(("let", 4)),
-        Head::Event(_) => Some(("event", 1)),
-        Head::If => Some(("if", 0)),
-        Head::Find(_) => Some(("find", 0)),
-        Head::Yes => Some(("true", 0)),
-        Head::No => Some(("false", 0)),
-        _ => None,
-    }
-}
-
-/// The word of an infix operator.
-fn infix_word(head: Head) -> Option<&'static str> {
-    match head {
-        Head::Par => Some("|"),
-        Head::Eq => Some("="),
-        Head::And => Some("&&"),
-        Head::Or => Some("||"),
+        Head::Stop | Head::Yield | Head::If | Head::Find(_) | Head::Yes | Head::No => Some(0),
+        Head::Event(_) => Some(1),
+        Head::In(_) | Head::Out(_) => Some(2),
+        Head::Repl(_, _) | Head::New(_, _) => Some(3),
+        Head::Let(_, _) => Some(4),
         _ => None,
     }
 }
@@ -278,16 +280,16 @@ impl<'a> Walk<'a> {
 
     /// A tree.
     fn tree(&mut self, node: Opened) {
-        if let Some((word, count)) = own_word(node.head) {
-            let token = self.seek(word);
+        if let Some(count) = names_behind(node.head) {
+            let token = self.seek(word_of(node.head, false));
             self.note(token);
             self.skip(count);
             return self.follow(node, token.unwrap_or(0));
         }
-        if let Some(word) = infix_word(node.head) {
-            return self.infix(node, word);
-        }
         match node.head {
+            Head::Par | Head::Eq | Head::And | Head::Or => {
+                self.infix(node, word_of(node.head, false));
+            }
             Head::Leaf(x) | Head::Read(x) | Head::Apply(x) => self.named(x, node),
             Head::Not => self.negation(node),
             Head::Branch => self.branch(node),

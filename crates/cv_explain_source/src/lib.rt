@@ -7,6 +7,7 @@ mod page;
 mod source;
 mod spots;
 mod tokens;
+mod words;
 
 pub use aligning::{Positions, positions_of};
 pub use locating::{

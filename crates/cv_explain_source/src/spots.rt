@@ -4,7 +4,7 @@ ghost use Rattle.cv_explain_source.specs.Spots.{column_behind, line_behind};
 use std::alloc::{AllocError, Global};
 
 /// Where a byte stands: its line and its column, both counted from 1, and the byte with which its line begins.
-#[derive(Clone, Copy, Debug, PartialEq, Eq)]
+#[derive(Clone, Copy)]
 pub struct Spot {
     pub line: usize,
     pub column: usize,

@@ -34,12 +34,16 @@ impl Text {
     }
 
     /// How many tokens there are, the end token among them.
-    pub fn len(&self) -> u32 {
+    pub fn len(&self) -> u32
+        ensures { result ≡ length self.now.tokens }
+    {
         self.tokens.len()
     }
 
     /// The text of a token.
-    pub fn word(&self, k: u32) -> &str {
+    pub fn word(&self, k: u32) -> &str
+        ensures { k < length self.now.tokens → result.now ≡ (token_at self.now.tokens k).text }
+    {
         if k < self.tokens.len() {
             self.tokens.text(k)
         } else {
