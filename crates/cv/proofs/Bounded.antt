@@ -7,20 +7,17 @@ use Rattle.cv_syntax_trees.specs.Tree.{Tree}
 use Rattle.cv_library.specs.Givens.{Given}
 use Rattle.cv_accept.specs.Accepted.{Content, most_bytes, most_pool, read_of}
 use Rattle.cv_sequences.proofs.files.Ready.{file_of}
-use Rattle.cv_context.specs.declared.products.shape.Shape.{Shape as ShapeInCode}
 use Rattle.cv_context.specs.products.Shapes.{Shape, shape_of}
-use Rattle.cv_context.specs.products.ShapesInCode.{shape_in}
 use Rattle.cv_context_files.proofs.counts.Runs.{runs}
 use Rattle.cv_context_left_side.specs.refusals.Reducible.{IsReducible}
 use Rattle.cv_derive_laws.specs.stores.Soundness.{DerivationsHold, DerivedBodiesAreUnreached}
-use Rattle.cv_follow.specs.Scripts.{Told, known_to}
-use Rattle.cv_follow.proofs.StepKinds.{reduction}
+use Rattle.cv_kernel.specs.Followed.{known_to}
+use Rattle.cv_kernel.proofs.StepKinds.{reduction}
 use Rattle.cv_kernel.specs.Proofs.{IsProof, IsTransition, Transition, closed_by, shape_by}
 use Rattle.cv_kernel.specs.Sayings.{Accepted, MaySay}
 use Rattle.cv_match_laws.proofs.answers.Many.{are_answers}
 use Rattle.cv_meaning.specs.Interpretation.{setting_with}
 use Rattle.cv_meaning.specs.contexts.Sides.{side_of}
-use Rattle.cv_report.specs.declared.report.Entry.{Entry}
 use Rattle.cv_report.specs.declared.report.Report.{Report}
 use Rattle.cv_scene.specs.Reductions.{context_of_game}
 use Rattle.cv_scene.specs.Scenes.{Scene}
@@ -33,13 +30,13 @@ use Rattle.cv_steps.specs.Sequences.{scene}
 use Rattle.cv_steps_laws.specs.crypto.Conditions.{equivalence_of, failure_of}
 use Rattle.cv_steps_laws.specs.crypto.Steps.{first_answer, reduction_of}
 use Rattle.cv_steps_laws.proofs.crypto.Accepted.{accepted}
-use Rattle.cv.specs.Calls.{AreBounded, HasBoundedCalls}
-use Rattle.cv.specs.Contexts.{contexts_in}
-use Rattle.cv.specs.Runs.{Runs}
-use Rattle.cv.specs.Strategy.{TakesSteps, declared_in, file_in, game_in, steps_in}
+use Rattle.cv.specs.Calls.{AreBounded, AreBoundedCalls, HasBoundedCalls}
+use Rattle.cv.specs.Contexts.{contexts_along}
+use Rattle.cv.specs.Runs.{HasRun}
+use Rattle.cv_follow.specs.Courses.{Course}
+use Rattle.cv.specs.Strategy.{Leads, declared_in, file_in, game_in}
 use Rattle.cv.specs.Values.{Contexts, context_of}
-use Rattle.cv.proofs.Commands.{Taken, taken}
-use Rattle.cv.proofs.Faithful.{context_numbered, contexts_along, links_of, matched, named_context, contexts_taken, stands_in}
+use Rattle.cv.proofs.Faithful.{context_numbered, links_of, named_context, stands_in}
 use Rattle.cv.proofs.Stepping.{split_at}
 
 -- what stands at a place has so many before it
@@ -95,43 +92,28 @@ module _ (ds : List Declaration) (own : ℕ) (first : Tree) (w : IsFileOf ds own
       by_items (Some (items.Crypto n x)) q s = by_equivalence n x q (equivalence_of (at game) n) refl s
       by_items o q s = absurd (cc)
 
--- the lines of a report
+-- the lines of a course of a file that was read
 
 abbrev HasBoundsFrom : List Declaration → (own : ℕ) → Tree → Type 0
 HasBoundsFrom ds own first =
     (before : List Transition) (game : Tree) → IsProof ds (known_to own) first before game → (t : Transition) (rest : List Transition) → IsTransition ds (known_to own) (suc (length before)) (closed_by before) game t
     → (h : Shape) → t.context ≡ Some h → Bounds ds (contexts_along ds own 1 first (before ++ t ∷ rest)) (suc (length before)) h
 
-abbrev AreBoundedCalls : Report → File → Type 0
-AreBoundedCalls r f =
-    (k : ℕ) (e : Entry) (h : ShapeInCode) → slice_get r.trail.items k ≡ Some e → e.context ≡ Some h
-    → MatchOption (context_of (contexts_in r) (suc k)) ⊥ (AreBounded (declared_in r) (shape_in h))
-
 module _ (holds : (ds : List Declaration) → DerivationsHold ds) (unreached : (ds : List Declaration) → DerivedBodiesAreUnreached ds) (c : Content) (f : File) (r : Report) (source : Given) (reads : read_of most_pool source ≡ Ok c) (few : length source.bytes ≤ most_bytes) where
   content_bounds : HasBoundsFrom c.declarations c.own c.game
   content_bounds = bounded c.declarations c.own c.game (file_of source c reads holds unreached few)
 
-  steps_calls : r.file ≡ Some f → file_in r f (length c.names) ≡ c → TakesSteps r f → AreBoundedCalls r f
-  steps_calls there held w k e h at e₁ =
-      let trees = r.work.pool.trees in
+  steps_calls : file_in r f (length c.names) ≡ c → (course : Course) → Leads r f course → AreBoundedCalls r f course
+  steps_calls held course p k t h at e =
       let ds = declared_in r in
       let own = r.work.decls.own in
       let first = game_in r f in
-      let ts = w.proof in
-      let m = matched trees r.trail.items ts k e w.trail at in
-      let t = m.0 in
-      let s = stands_in ds (known_to own) first ts w.last w.leads k t m.1 in
+      let ts = course.proof in
+      let s = stands_in ds (known_to own) first ts course.last p k t at in
       let here = subst (λ (d : Content). HasBoundsFrom d.declarations d.own d.game) (sym held) content_bounds in
-      let shape = sym (ap (λ (y : Told). y.2) m.2) ∙ ap (option_map shape_in) e₁ in
-      let alone = here (take k ts) s.game s.before t (drop (suc k) ts) s.here (shape_in h) shape in
-      let among = subst (λ us. Bounds ds (contexts_along ds own 1 first us) (suc (length (take k ts))) (shape_in h)) (split_at ts k t m.1) alone in
-      let numbered = subst (λ n. Bounds ds (contexts_along ds own 1 first ts) (suc n) (shape_in h)) (before_it ts k t m.1) among in
-      subst (λ cs. Bounds ds cs (suc k) (shape_in h)) (sym (contexts_taken r f w there)) numbered
+      let alone = here (take k ts) s.game s.before t (drop (suc k) ts) s.here h e in
+      let among = subst (λ us. Bounds ds (contexts_along ds own 1 first us) (suc (length (take k ts))) h) (split_at ts k t at) alone in
+      subst (λ n. Bounds ds (contexts_along ds own 1 first ts) (suc n) h) (before_it ts k t at) among
 
-  by_report : Taken r f → r.file ≡ Some f → file_in r f (length c.names) ≡ c → AreBoundedCalls r f
-  by_report (inl n) there held k e h at e₁ = absurd (let x = sym (ap (λ es. slice_get es k) n) ∙ at in cc)
-  by_report (inr w) there held k e h at e₁ = steps_calls there held w k e h at e₁
-
-  pub run_calls : Runs c f r → HasBoundedCalls r
-  run_calls (inl s) = subst (λ (o : Option File). IfSome o (AreBoundedCalls r)) (sym s.file) tt
-  run_calls (inr h) = subst (λ (o : Option File). IfSome o (AreBoundedCalls r)) (sym h.file) (by_report (taken r f (steps_in r) h.proceeds) h.file h.content)
+  pub run_calls : (course : Course) → HasRun c f r course → HasBoundedCalls r
+  run_calls course h = subst (λ (o : Option File). IfSome o (λ g. (k : Course) → Leads r g k → AreBoundedCalls r g k)) (sym h.file) (steps_calls h.content)

@@ -66,12 +66,15 @@ use Rattle.cv.specs.Faults.{parse_ended, status_of as ended_by}
 use Rattle.cv.specs.Words.{AreTold}
 use Rattle.cv_accept.specs.Accepted.{most_pool}
 use Rattle.cv_report.specs.verdicts.Verdicts.{ended_with}
-use Rattle.cv_follow.specs.Scripts.{EndsScript, entry_in, entry_of, first_open, is_proved, known_to}
-use Rattle.cv_follow.proofs.Closings.{all_proved_law}
-use Rattle.cv.specs.Strategy.{FollowsScript, FollowsStrategy, TakesSteps, declared_in, ends_under, game_in, moves_in, steps_in}
+use Rattle.cv_follow.specs.Courses.{Course}
+use Rattle.cv_follow.specs.Scripts.{EndsScript, first_open, is_proved}
+use Rattle.cv_kernel.specs.Followed.{known_to}
+use Rattle.cv_follow.proofs.Verdicts.{all_proved_law}
+use Rattle.cv.specs.Strategy.{FollowsScript, FollowsStrategy, HasVerdicts, TakesSteps, declared_in, ends_under, game_in, moves_in, steps_in}
+use Rattle.cv.specs.Strategy as strategy
+use Rattle.cv_scene.specs.Scenes.{Scene}
 use Rattle.cv_kernel.specs.Proofs.{closed_by, nodes_along}
 use Rattle.cv_steps.specs.Sequences.{scene}
-use Rattle.cv_kernel.specs.Proofs.{Transition}
 use Rattle.cv_follow.specs.Searches.{AreMoves, EndsSearch, Passes, by_limit, end_of_search, without_more}
 use Rattle.cv_report.specs.declared.report.Status.{Status}
 use Rattle.cv_report.specs.declared.report.Which.{Which}
@@ -247,13 +250,13 @@ where_told None source P a p = tt
 where_told (Some b) source P a p = subst P (sym a) p
 
 -- the cause of a refusal
-pub refusal_cause : (o : Outside) (r : Report) (source : Given) → AreTold o.told source → r.file ≡ None → (x : FileError) → Refuses most_pool source x → ComesFrom o r (ended_by x)
-refusal_cause o r source a none x e = go x e
+pub refusal_cause : (o : Outside) (r : Report) (course : Course) (source : Given) → AreTold o.told source → r.file ≡ None → (x : FileError) → Refuses most_pool source x → ComesFrom o r course (ended_by x)
+refusal_cause o r course source a none x e = go x e
   where
     in_told : (P : Given → Type 0) → P source → IfSome o.told P
     in_told P p = where_told o.told source P a p
 
-    parsing : (x : ParseError) → read_of most_pool source ≡ Err (fault.Parse x) → ComesFrom o r (parse_ended x)
+    parsing : (x : ParseError) → read_of most_pool source ≡ Err (fault.Parse x) → ComesFrom o r course (parse_ended x)
     parsing (parse.Syntax k) e = cause.syntax (in_told _ (told_at source parse.Syntax k (λ signs j. IsDeadAtEveryDepth signs j) (λ number y i. as_syntax number y k i) (λ signs j i. dead_anywhere most_pool signs j i) (parsed_refusal source (parse.Syntax k) e)))
     parsing (parse.Nesting k) e = cause.nesting (in_told _ (told_at source parse.Nesting k (λ signs j. IsNestedTooDeep signs j) (λ number y i. as_nesting number y k i) (λ signs j i. nested_at most_pool signs j i) (parsed_refusal source (parse.Nesting k) e)))
     parsing (parse.NameTwice k) e = cause.name_twice (in_told _ (told_at source parse.NameTwice k (λ signs j. IsMisnamedAt signs names.NameTwice j) (λ number y i. as_twice number y k i) (λ signs j i. twice_named most_pool signs j i) (parsed_refusal source (parse.NameTwice k) e)))
@@ -265,7 +268,7 @@ refusal_cause o r source a none x e = go x e
     parsing (parse.Build (build.Depth n)) e = cause.deep (in_told _ (told source (build.Depth n) (λ signs. IsLarge signs (HasDepth n)) (λ signs i. deep_game most_pool signs n i) e))
     parsing (parse.Build build.OutOfMemory) e = cause.memory
 
-    go : (x : FileError) → Refuses most_pool source x → ComesFrom o r (ended_by x)
+    go : (x : FileError) → Refuses most_pool source x → ComesFrom o r course (ended_by x)
     go (fault.Lex x) e = cause.no_tokens (in_told (λ (s : Given). tokens_of s.bytes ≡ Err x) (lexis_of source x e))
     go (fault.LibraryLex x) e = cause.library_without_tokens (in_told (λ (s : Given). tokens_given s ≡ Err (given.LibraryLex x)) (not_given source (given.LibraryLex x) (omega arith) e))
     go (fault.Library x) e = cause.no_library (in_told (λ (s : Given). tokens_given s ≡ Err (given.Library x)) (not_given source (given.Library x) (omega arith) e))
@@ -280,42 +283,31 @@ refusal_cause o r source a none x e = go x e
     go (fault.Room need) e = cause.script_room (subst (λ (f : Option File). IsNone f) (sym none) refl) (in_told (λ bs. IsFull most_pool bs need) e)
     go fault.OutOfMemory e = cause.memory
 
--- as many steps were taken as are told
-steps_counted : (r : Report) (f : File) (w : TakesSteps r f) → length r.steps.items ≡ length w.proof
-steps_counted r f w = ap length w.steps ∙ (length-map r.trail.items (λ e. e.step) ∙ (sym (length-map r.trail.items (entry_in r.work.pool.trees)) ∙ (ap length w.trail ∙ length-map w.proof entry_of)))
+-- the verdicts of a course that closes each query
+all_closed : (r : Report) (course : Course) → HasVerdicts r course → first_open (closed_by course.proof) 1 (queries_in (declared_in r)) ≡ None → list_all is_proved r.verdicts.items ≡ true
+all_closed r course (strategy.all v) q = ap (list_all is_proved) v ∙ all_proved_law course.proof (queries_in (declared_in r)) q
+all_closed r course (strategy.none m v) q = ap (list_all is_proved) v
 
--- the cause of what is said of a file without a proof block
-pub found_cause : (o : Outside) (r : Report) (f : File) → r.file ≡ Some f → r.script ≡ None → FollowsStrategy r f → ComesFrom o r r.status
-found_cause o r f s n w = by_end r.status w.ends
-  where
-    there : (Holds : File → Type 0) → Holds f → IsSomeAnd r.file Holds
-    there Holds h = subst (λ (x : Option File). IsSomeAnd x Holds) (sym s) h
+module _ (o : Outside) (r : Report) (f : File) (course : Course) (file : r.file ≡ Some f) (took : TakesSteps r f course) where
+  with_file : (Holds : File → Type 0) → Holds f → IsSomeAnd r.file Holds
+  with_file Holds h = subst (λ (x : Option File). IsSomeAnd x Holds) (sym file) h
 
-    ts : List Transition
-    ts = w.took.proof
+  abbrev found : List Tree
+  found = map (λ t. t.step) course.proof
 
-    found : List Tree
-    found = map (λ t. t.step) ts
+  abbrev unclosed : Option ℕ
+  unclosed = first_open (closed_by course.proof) 1 (queries_in (declared_in r))
 
-    qs : List Tree
-    qs = queries_in (declared_in r)
+  abbrev at : Scene
+  at = scene (declared_in r) (known_to r.work.decls.own) course.last
 
-    count : length r.steps.items ≡ length ts
-    count = steps_counted r f w.took
-
+  -- the cause of what is said of a file without a proof block
+  module _ (plain : r.script ≡ None) (w : FollowsStrategy r course) where
     -- a query is open
-    left : (made : ℕ) → AreMoves found made → (k : ℕ) → first_open (closed_by ts) 1 qs ≡ Some k → IsSomeAnd r.file (λ (g : File). LeavesOpen r g made)
-    left made m k q = there (λ (g : File). LeavesOpen r g made) (record {
-      plain = n;
-      proof = ts;
-      last = w.took.last;
-      leads = w.took.leads;
-      count = count;
-      unclosed = subst (λ (x : Option ℕ). IsSome x) (sym q) refl;
-      counted = m;
-    })
+    left : (made : ℕ) → AreMoves found made → (k : ℕ) → unclosed ≡ Some k → IsSomeAnd r.file (λ (g : File). LeavesOpen r g course made)
+    left made m k q = with_file (λ (g : File). LeavesOpen r g course made) (record { plain = plain; leads = took.leads; unclosed = subst (λ (x : Option ℕ). IsSome x) (sym q) refl; counted = m })
 
-    open_by : (k : ℕ) → first_open (closed_by ts) 1 qs ≡ Some k → (b : Bool) → nat_lt w.made (moves_in r.command) ≡ b → ComesFrom o r (if b then status.Open Stuck else status.Open Moves)
+    open_by : (k : ℕ) → unclosed ≡ Some k → (b : Bool) → nat_lt w.made (moves_in r.command) ≡ b → ComesFrom o r course (if b then status.Open Stuck else status.Open Moves)
     open_by k q true e = cause.stuck (let l : w.made < moves_in r.command = grind (arith, nat_tests) in l) (left w.made w.counted k q)
     open_by k q false e =
         let few = w.few in
@@ -323,96 +315,51 @@ found_cause o r f s n w = by_end r.status w.ends
         let all : w.made ≡ moves_in r.command = omega arith in
         cause.moves (left (moves_in r.command) (subst (AreMoves found) all w.counted) k q)
 
-    nothing : (unclosed : Option ℕ) → first_open (closed_by ts) 1 qs ≡ unclosed → ComesFrom o r (end_of_search (moves_in r.command) w.made unclosed)
-    nothing None q = cause.all_proved (ap (list_all is_proved) w.took.verdicts ∙ all_proved_law ts qs q)
+    nothing : (u : Option ℕ) → unclosed ≡ u → ComesFrom o r course (end_of_search (moves_in r.command) w.made u)
+    nothing None q = cause.all_proved (all_closed r course took.verdicts q)
     nothing (Some k) q = open_by k q (nat_lt w.made (moves_in r.command)) refl
 
-    passed : (which : Which) → Passes (length r.work.pool.trees) (length found) (scene (declared_in r) (known_to r.work.decls.own) w.took.last) (closed_by ts) which → ComesFrom o r (status.Limit which)
-    passed which h = cause.passes (there (λ (g : File). PassesLimit r g which) (record {
-      plain = n;
-      proof = ts;
-      last = w.took.last;
-      leads = w.took.leads;
-      count = count;
-      passes = subst (λ k. Passes (length r.work.pool.trees) k (scene (declared_in r) (known_to r.work.decls.own) w.took.last) (closed_by ts) which) (length-map ts (λ t. t.step)) h;
+    passed : (which : Which) → Passes (length r.work.pool.trees) (length found) at (closed_by course.proof) which → ComesFrom o r course (status.Limit which)
+    passed which h = cause.passes (with_file (λ (g : File). PassesLimit r g course which) (record {
+      plain = plain;
+      leads = took.leads;
+      passes = subst (λ k. Passes (length r.work.pool.trees) k at (closed_by course.proof) which) (length-map course.proof (λ t. t.step)) h;
     }))
 
-    by_end : (end : Status) → EndsSearch (moves_in r.command) w.made (length r.work.pool.trees) (scene (declared_in r) (known_to r.work.decls.own) w.took.last) found (closed_by ts) qs end → ComesFrom o r end
-    by_end _ without_more = nothing (first_open (closed_by ts) 1 qs) refl
+    by_end : (end : Status) → EndsSearch (moves_in r.command) w.made (length r.work.pool.trees) at found (closed_by course.proof) (queries_in (declared_in r)) end → ComesFrom o r course end
+    by_end _ without_more = nothing unclosed refl
     by_end _ (by_limit which h) = passed which h
 
--- the cause of what is said of a file with a proof block
-pub script_cause_of : (o : Outside) (r : Report) (f : File) (block : List Tree) → r.file ≡ Some f → steps_in r ≡ Some block → FollowsScript r f block → ComesFrom o r r.status
-script_cause_of o r f block s t w = go w.left w.split w.ends
-  where
-    there : (Holds : File → Type 0) → Holds f → IsSomeAnd r.file Holds
-    there Holds h = subst (λ (x : Option File). IsSomeAnd x Holds) (sym s) h
+    pub found_cause : ComesFrom o r course r.status
+    found_cause = by_end r.status w.ends
 
-    count : length r.steps.items ≡ length w.took.proof
-    count = steps_counted r f w.took
-
-    qs : List Tree
-    qs = queries_in (declared_in r)
+  -- the cause of what is said of a file with a proof block
+  module _ (block : List Tree) (steps : steps_in r ≡ Some block) (w : FollowsScript r f block course) where
+    all_steps : w.steps ≡ found ++ [] → HasAllSteps r f course
+    all_steps i = record { block = block; there = steps; steps = w.steps; room = w.room; stands = w.stands; all = i ∙ append-nil found; leads = took.leads }
 
     -- the verdicts on the queries
-    closed : (unclosed : Option ℕ) → first_open (closed_by w.took.proof) 1 qs ≡ unclosed → w.steps ≡ map (λ t. t.step) w.took.proof ++ [] → ComesFrom o r (ended_with unclosed)
-    closed None q i = cause.all_proved (ap (list_all is_proved) w.took.verdicts ∙ all_proved_law w.took.proof qs q)
-    closed (Some k) q i =
-        let asked : HasOpenQuery r f k = record {
-          block = block;
-          there = t;
-          steps = w.steps;
-          room = w.room;
-          stands = w.stands;
-          proof = w.took.proof;
-          all = i ∙ append-nil (map (λ t. t.step) w.took.proof);
-          last = w.took.last;
-          leads = w.took.leads;
-          first = q;
-        } in
-        cause.no_close (there (λ (g : File). HasOpenQuery r g k) asked)
+    closed : (u : Option ℕ) → unclosed ≡ u → w.steps ≡ found ++ [] → ComesFrom o r course (ended_with u)
+    closed None q i = cause.all_proved (all_closed r course took.verdicts q)
+    closed (Some k) q i = cause.no_close (with_file (λ (g : File). HasOpenQuery r g course k) (record { steps = all_steps i; first = q }))
 
     -- or none are asked for
-    done : r.command ≡ command.Games → w.steps ≡ map (λ t. t.step) w.took.proof ++ [] → ComesFrom o r status.Done
-    done g i =
-        let all : HasAllSteps r f = record {
-          block = block;
-          there = t;
-          steps = w.steps;
-          room = w.room;
-          stands = w.stands;
-          proof = w.took.proof;
-          all = i ∙ append-nil (map (λ t. t.step) w.took.proof);
-          last = w.took.last;
-          leads = w.took.leads;
-        } in
-        cause.done g (there (λ (g : File). HasAllSteps r g) all)
-
-    by_command : (c : Command) → r.command ≡ c → (unclosed : Option ℕ) → first_open (closed_by w.took.proof) 1 qs ≡ unclosed → w.steps ≡ map (λ t. t.step) w.took.proof ++ [] → ComesFrom o r (ends_under c (ended_with unclosed))
-    by_command command.Games g None q i = done g i
-    by_command command.Games g (Some k) q i = done g i
+    by_command : (c : Command) → r.command ≡ c → (u : Option ℕ) → unclosed ≡ u → w.steps ≡ found ++ [] → ComesFrom o r course (ends_under c (ended_with u))
+    by_command command.Games g None q i = cause.done g (with_file (λ (g : File). HasAllSteps r g course) (all_steps i))
+    by_command command.Games g (Some k) q i = cause.done g (with_file (λ (g : File). HasAllSteps r g course) (all_steps i))
     by_command (command.Prove n more) g u q i = closed u q i
     by_command (command.Sample n p) g u q i = closed u q i
     by_command command.Nothing g u q i = closed u q i
 
-    go : (left : List Tree) → w.steps ≡ map (λ t. t.step) w.took.proof ++ left → EndsScript (w.room + nodes_along (declared_in r) (known_to r.work.decls.own) (game_in r f) w.took.proof) (length w.took.proof) (scene (declared_in r) (known_to r.work.decls.own) w.took.last) (closed_by w.took.proof) qs left w.end → ComesFrom o r r.status
-    go [] i e =
-        subst (ComesFrom o r) (sym (w.ended ∙ ap (ends_under r.command) e)) (by_command r.command refl (first_open (closed_by w.took.proof) 1 qs) refl i)
-    go (next ∷ left) i e =
-        let stop : HasStop r f w.end = record {
-          block = block;
-          there = t;
-          steps = w.steps;
-          room = w.room;
-          stands = w.stands;
-          proof = w.took.proof;
-          next = next;
-          left = left;
-          split = i;
-          last = w.took.last;
-          leads = w.took.leads;
-          count = count;
-          stops = e;
-        } in
-        let same = w.ended ∙ stops_under r.command (w.room + nodes_along (declared_in r) (known_to r.work.decls.own) (game_in r f) w.took.proof) (length w.took.proof) (scene (declared_in r) (known_to r.work.decls.own) w.took.last) (closed_by w.took.proof) next w.end e in
-        subst (ComesFrom o r) (sym same) (cause.stops (there (λ (g : File). HasStop r g w.end) stop))
+    abbrev taken : ℕ
+    taken = w.room + nodes_along (declared_in r) (known_to r.work.decls.own) (game_in r f) course.proof
+
+    by_left : (left : List Tree) → w.steps ≡ found ++ left → EndsScript taken (length course.proof) at (closed_by course.proof) (queries_in (declared_in r)) left w.end → ComesFrom o r course r.status
+    by_left [] i e = subst (ComesFrom o r course) (sym (w.ended ∙ ap (ends_under r.command) e)) (by_command r.command refl unclosed refl i)
+    by_left (next ∷ left) i e =
+        let stop : HasStop r f course w.end = record { block = block; there = steps; steps = w.steps; room = w.room; stands = w.stands; next = next; left = left; split = i; leads = took.leads; stops = e } in
+        let same = w.ended ∙ stops_under r.command taken (length course.proof) at (closed_by course.proof) next w.end e in
+        subst (ComesFrom o r course) (sym same) (cause.stops (with_file (λ (g : File). HasStop r g course w.end) stop))
+
+    pub script_cause_of : ComesFrom o r course r.status
+    script_cause_of = by_left w.ends.left w.ends.split w.ends.ends

@@ -12,7 +12,7 @@ use Rattle.cv_bound.specs.declared.costs.sums.Sums.{Sums}
 use Rattle.cv_kernel.specs.Closings.{Closing, closing_in, is_of_secrecy}
 use Rattle.cv_kernel.specs.Proofs.{Transition, sum_at, sum_from, sums_behind}
 use Rattle.cv_report.specs.verdicts.Verdicts.{verdict_by, verdicts_by}
-use Rattle.cv_follow.specs.Walks.{sums_along}
+use Rattle.cv_kernel.specs.Followed.{sums_along}
 
 -- the step that closes a query first, and its sum
 

@@ -1,17 +1,15 @@
 -- How runs end under a command.
-use Rattle.std.proofs.Common.{◌≡◌, ℕ, Bool, true, false, List, [], Option, Some, None, refl, sym, subst, ◌⊎◌, inl, inr}
-use Rattle.cv_syntax.specs.declared.work.File.{File}
+use Rattle.std.proofs.Common.{◌≡◌, ℕ, true, List, refl, ◌⊎◌, inl, inr}
 use Rattle.cv_syntax_trees.specs.Tree.{Tree}
 use Rattle.cv_follow.specs.Scripts.{Stops, no_room, refused, too_deep, too_large, too_many}
 use Rattle.cv_report.specs.declared.report.Cause.TheVariants.{Moves, NoClose, StepRefused, Stuck}
 use Rattle.cv_report.specs.declared.report.Command.{Command}
 use Rattle.cv_report.specs.declared.report.Command.TheVariants as command
-use Rattle.cv_report.specs.declared.report.Report.{Report}
 use Rattle.cv_report.specs.declared.report.Status.{Status}
 use Rattle.cv_report.specs.declared.report.Status.TheVariants as status
 use Rattle.cv_report.specs.declared.report.Which.TheVariants.{Depth, File as FileLimit, Nodes, Pool, Steps, Tokens}
 use Rattle.cv_scene.specs.Scenes.{Scene}
-use Rattle.cv.specs.Strategy.{FollowsStrategy, MayHaveFile, Proceeds, ProceedsWithout, ShowsFile, SpeaksOfFile, TakesSteps, ends_under, is_games, shown}
+use Rattle.cv.specs.Strategy.{MayHaveFile, SpeaksOfFile, ends_under, is_games, shown}
 
 pub games_is : (c : Command) → is_games c ≡ true → c ≡ command.Games
 games_is command.Games e = refl
@@ -90,23 +88,9 @@ speaks_under (command.Prove n more) s h = inr h
 speaks_under (command.Sample n p) s h = inr h
 speaks_under command.Nothing s h = inr h
 
--- a report took no step, or some
-
-abbrev pub Taken : Report → File → Type 0
-Taken r f = (r.trail.items ≡ []) ⊎ TakesSteps r f
-
-taken_without : (r : Report) (f : File) (games : Bool) → ProceedsWithout games r f → Taken r f
-taken_without r f true p = inl p.trail
-taken_without r f false p = inr p.took
-
-pub taken : (r : Report) (f : File) (script : Option (List Tree)) → Proceeds r f script → Taken r f
-taken r f None p = taken_without r f (is_games r.command) p
-taken r f (Some steps) p = inr p.took
-
--- what a report says of a file without a proof block, by its command
-
-pub shown_without : (r : Report) (f : File) → is_games r.command ≡ true → ShowsFile r → ProceedsWithout (is_games r.command) r f
-shown_without r f e w = subst (λ (b : Bool). ProceedsWithout b r f) (sym e) w
-
-pub found_without : (r : Report) (f : File) → is_games r.command ≡ false → FollowsStrategy r f → ProceedsWithout (is_games r.command) r f
-found_without r f e w = subst (λ (b : Bool). ProceedsWithout b r f) (sym e) w
+-- memory ends each command alike
+pub memory_under : (c : Command) → ends_under c status.Memory ≡ status.Memory
+memory_under command.Games = refl
+memory_under (command.Prove n more) = refl
+memory_under (command.Sample n p) = refl
+memory_under command.Nothing = refl

@@ -30,7 +30,7 @@ use Rattle.cv_sequences.proofs.secrets.Alike.{bounded_alike, left_positive}
 use Rattle.cv_sequences.proofs.secrets.Sums.{added_alike}
 use Rattle.cv_sequences.proofs.secrets.Tapes.{tapes_were_had}
 use Rattle.cv_kernel.specs.Closings.{Closing, closing_failure}
-use Rattle.cv_follow.specs.Scripts.{known_to}
+use Rattle.cv_kernel.specs.Followed.{known_to}
 use Rattle.cv.proofs.Closers.{closed_at}
 
 -- what laws say of certificates

@@ -1,21 +1,14 @@
 -- How a run ends that followed a script, or that found steps.
 use Rattle.std.proofs.Common.{ℕ, ◌+◌, nat_lt, Bool, true, false, if◌then◌else◌, List, [], ◌∷◌, length, sym, subst, Option, Some, None}
-use Rattle.cv_pool.specs.KindTree.{KindTree}
-use Rattle.cv_syntax.specs.Classes.{queries}
-use Rattle.cv_syntax_trees.specs.Declarations.{Declaration}
 use Rattle.cv_syntax_trees.specs.Tree.{Tree}
-use Rattle.cv_kernel.specs.Proofs.{closed_by, nodes_along}
 use Rattle.cv_report.specs.declared.report.Cause.TheVariants.{Moves, Stuck}
 use Rattle.cv_report.specs.declared.report.Status.{Status}
 use Rattle.cv_report.specs.declared.report.Status.TheVariants as status
 use Rattle.cv_report.specs.declared.report.Which.{Which}
 use Rattle.cv_scene.specs.Scenes.{Scene}
-use Rattle.cv_steps.specs.Sequences.{scene}
 use Rattle.cv_report.specs.verdicts.Verdicts.{ended_with}
-use Rattle.cv_follow.specs.Scripts.{EndsScript, Stops, first_open, known_to, no_room, refused, too_deep, too_large, too_many}
-use Rattle.cv_follow.specs.declared.walk.Walk.{Walk}
+use Rattle.cv_follow.specs.Scripts.{EndsScript, Stops, first_open, no_room, refused, too_deep, too_large, too_many}
 use Rattle.cv_follow.specs.Searches.{EndsSearch, Passes, by_limit, by_room, by_step, end_of_search, without_more}
-use Rattle.cv_follow.specs.Walks.{IsWalk}
 use Rattle.cv.specs.Strategy.{MayHaveFile}
 
 -- how a run ends that followed a script
@@ -31,14 +24,9 @@ ended_may : (o : Option ℕ) → MayHaveFile (ended_with o)
 ended_may None = tt
 ended_may (Some k) = tt
 
-ends_may : (taken count : ℕ) (s : Scene) (ks : List ℕ) (queries left : List Tree) (end : Status) → EndsScript taken count s ks queries left end → MayHaveFile end
+pub ends_may : (taken count : ℕ) (s : Scene) (ks : List ℕ) (queries left : List Tree) (end : Status) → EndsScript taken count s ks queries left end → MayHaveFile end
 ends_may taken count s ks queries [] end h = subst MayHaveFile (sym h) (ended_may (first_open ks 1 queries))
 ends_may taken count s ks queries (step ∷ left) end h = stops_may taken count s ks step end h
-
-pub walk_may : (before : ℕ) (ds : List Declaration) (own : ℕ) (first : Tree) (steps queries : List Tree) (trees : List KindTree) (w : Walk) → IsWalk before ds own first steps queries trees w → MayHaveFile w.status
-walk_may before ds own first steps queries trees w h =
-    let f = h.follows in
-    ends_may (before + nodes_along ds (known_to own) first f.proof) (length f.proof) (scene ds (known_to own) f.last) (closed_by f.proof) queries f.left w.status f.ends
 
 -- how a search ends
 

@@ -1,15 +1,13 @@
 -- How runs end.
 use Rattle.std.proofs.Common.{◌≡◌, ℕ, suc, ◌+◌, ◌<◌, ◌≤◌, arith, refl, ap, nat_lt, Bool, true, false, if◌then◌else◌, List, [], ◌∷◌, ◌++◌, length, length-append, map, take, Option, Some, None, Result, Ok, Err, sym, ◌∙◌, subst, ◌⊎◌, inl, inr, append-nil}
-use Rattle.std.specs.Prelude.{IfSome, IsNone, IsSome, IsSomeAnd, MatchOption, option_and_then, slice_get, ◌≢◌}
+use Rattle.std.specs.Prelude.{IfSome, IsNone, IsSome, IsSomeAnd, MatchOption, is_some, option_and_then, ◌&&◌, ◌≢◌}
 use Rattle.cv_outside.specs.Causes.{NoFault, Rose}
 use Rattle.cv_outside.specs.Told.{Files}
 use Rattle.cv_outside.specs.declared.shelf.FetchError.{FetchError}
 use Rattle.cv_outside.specs.declared.shelf.FetchError.TheVariants as fetch
 use Rattle.cv_syntax.specs.declared.work.BuildError.TheVariants as build
 use Rattle.cv_syntax.specs.declared.work.File.{File as SourceFile}
-use Rattle.cv_syntax_trees.specs.Tree.{Tree}
-use Rattle.cv_syntax.specs.PoolTrees.{tree_at}
-use Rattle.cv_bound.specs.declared.terms.Term.{Term}
+use Rattle.cv_syntax_trees.specs.Tree.{Tree, Empty}
 use Rattle.cv_parse.specs.declared.error.ParseError.TheVariants as parse
 use Rattle.cv_library.specs.Givens.{Given}
 use Rattle.cv_accept.specs.declared.error.FileError.{FileError}
@@ -25,35 +23,34 @@ use Rattle.cv_scene.specs.Scenes.{Scene}
 use Rattle.cv_steps.specs.Sequences.{scene}
 use Rattle.cv_report.specs.declared.report.Which.TheVariants.{Depth, File, Nodes, Pool, Steps, Tokens}
 use Rattle.cv_report.specs.verdicts.Verdicts.{ended_with}
-use Rattle.cv_follow.specs.Scripts.{EndsScript, Follows, Stops, first_open, known_to, most_steps, no_room, refused, too_deep, too_large, too_many}
+use Rattle.cv_follow.specs.Scripts.{EndsScript, Follows, Stops, first_open, is_without_block, most_steps, no_room, refused, too_deep, too_large, too_many}
+use Rattle.cv_kernel.specs.Followed.{known_to}
 use Rattle.cv.proofs.Walking.{never_stops}
 use Rattle.cv_report.specs.declared.report.Status.{Status}
 use Rattle.cv_report.specs.declared.report.Status.TheVariants as status
 use Rattle.cv_report.specs.declared.report.Command.{Command}
 use Rattle.cv_report.specs.declared.report.Command.TheVariants as command
 use Rattle.cv_report.specs.declared.report.Report.{Report}
-use Rattle.cv_report.specs.declared.report.Verdict.TheVariants.{Proved}
-use Rattle.cv.specs.Answers.{Answers, IsComplete}
+use Rattle.cv.specs.Answers.{Answers, Begins, IsComplete, IsSilent, lines_by, names_in}
 use Rattle.cv.specs.Causes.{ComesFrom, Outside}
 use Rattle.cv.specs.Causes as cause
 use Rattle.cv.specs.Faults.{status_of as ended_by}
 use Rattle.cv_report.specs.outcome.Fetched.{fetch_ended}
-use Rattle.cv_sequences.specs.Chains.{summed}
-use Rattle.cv.specs.Games.{HasCloseGames, IsWithin}
-use Rattle.cv_report.specs.declared.report.Entry.{Entry}
-use Rattle.cv_syntax.specs.declared.work.Game.{Game}
-use Rattle.cv_context.specs.declared.products.shape.Shape.{Shape}
-use Rattle.cv_context.specs.products.ShapesInCode.{shape_in}
-use Rattle.cv.specs.Calls.{AreBounded, HasBoundedCalls}
-use Rattle.cv.specs.Contexts.{contexts_in}
+use Rattle.cv.specs.Games.{AreClose, HasCloseGames}
+use Rattle.cv.specs.Calls.{AreBoundedCalls, HasBoundedCalls}
 use Rattle.cv_report.specs.outcome.Refused.{SaysNothing}
-use Rattle.cv.specs.Drawings.{HasDrawn}
-use Rattle.cv.specs.Steps.{HasCloseSteps, IsCloseStep, game_along}
-use Rattle.cv.specs.Values.{context_of}
-use Rattle.cv.specs.Strategy.{AcceptsAll, EndsBy, EndsWell, EndsWithout, HasFile, HoldsUpTo, IsExpected, IsGood, IsSound, Judged, Proceeds, SpeaksOfFile, declared_in, ends_under, file_in, game_in, is_games, moves_in, steps_in}
+use Rattle.cv.specs.Steps.{AreCloseSteps, HasCloseSteps}
+use Rattle.cv_report.specs.Lines.{Lines, games_along}
+use Rattle.cv_report.specs.Streams.{IsPut, Streams, is_streamed}
+use Rattle.cv_report.specs.Text.{IsLive}
+use Rattle.cv_report.specs.Writing.{TakesAll}
+use Rattle.cv_report.specs.declared.flow.Flow.{Flow}
+use Rattle.cv_report.specs.declared.stream.Stream.{Stream}
+use Rattle.cv_follow.specs.Courses.{Course, IsCourse, course_at, legs_of}
+use Rattle.cv.specs.Strategy.{AcceptsAll, EndsBy, EndsWell, EndsWithout, HasFile, HoldsAlong, IsExpected, IsGood, IsSound, Judged, Leads, Proceeds, SpeaksOfFile, TakesSteps, declared_in, ends_under, file_in, game_in, is_games, moves_in, steps_in}
 use Rattle.cv.specs.Words.{AreTold, IsLong, IsShort, alone, command_of, source_asked, text_asked}
 use Rattle.cv_outside.specs.words.Forms.{Asked, Games, Prove, Sample}
-use Rattle.cv.proofs.Causing.{where_told}
+use Rattle.cv.proofs.Causing.{refusal_cause, where_told}
 use Rattle.cv.proofs.Commands.{Speaks, speaks_under}
 use Rattle.cv_follow.specs.Fillings.{StandsBy, StandsFor, has_word}
 use Rattle.cv_follow.specs.Searches.{EndsSearch, Passes, by_limit, by_room, by_step, end_of_search, without_more}
@@ -188,27 +185,31 @@ ends_speak : (c : Command) (f : Content) (script : Option (List Tree)) (s : Stat
 ends_speak c f None s h = without_speaks f (is_games c) (moves_in c) s h
 ends_speak c f (Some steps) s h = subst Speaks (sym h.ends) (speaks_under c h.walked (follows_speak f h.room h.steps h.walked h.follows))
 
-refusal_speaks : (x : FileError) → (ended_by x ≡ status.Memory) ⊎ SpeaksOfFile (ended_by x)
-refusal_speaks (fault.Lex x) = inr tt
-refusal_speaks (fault.LibraryLex x) = inr tt
-refusal_speaks (fault.Library x) = inr tt
-refusal_speaks (fault.Expand x) = inr tt
-refusal_speaks (fault.Tokens n) = inr tt
-refusal_speaks (fault.Parse (parse.Syntax k)) = inr tt
-refusal_speaks (fault.Parse (parse.Nesting k)) = inr tt
-refusal_speaks (fault.Parse (parse.NameTwice k)) = inr tt
-refusal_speaks (fault.Parse (parse.NameUnknown k)) = inr tt
-refusal_speaks (fault.Parse (parse.Build (build.Full n))) = inr tt
-refusal_speaks (fault.Parse (parse.Build (build.Nodes n))) = inr tt
-refusal_speaks (fault.Parse (parse.Build (build.Depth n))) = inr tt
-refusal_speaks (fault.Parse (parse.Build build.OutOfMemory)) = inl refl
-refusal_speaks (fault.Script k) = inr tt
-refusal_speaks (fault.Types x) = inr tt
-refusal_speaks (fault.Scope x) = inr tt
-refusal_speaks (fault.Group k x) = inr tt
-refusal_speaks (fault.Query k) = inr tt
-refusal_speaks (fault.Room need) = inr tt
-refusal_speaks fault.OutOfMemory = inl refl
+-- a refusal ends a run that has no file and isn't done, and speaks of what is read unless memory ran out
+abbrev EndsRefused : Status → Type 0
+EndsRefused s = (HasFile s → ⊥) × (s ≢ status.Done) × ((s ≡ status.Memory) ⊎ SpeaksOfFile s)
+
+refusal_ends : (x : FileError) → EndsRefused (ended_by x)
+refusal_ends (fault.Lex x) = (λ h. h, λ e. (cc), inr tt)
+refusal_ends (fault.LibraryLex x) = (λ h. h, λ e. (cc), inr tt)
+refusal_ends (fault.Library x) = (λ h. h, λ e. (cc), inr tt)
+refusal_ends (fault.Expand x) = (λ h. h, λ e. (cc), inr tt)
+refusal_ends (fault.Tokens n) = (λ h. h, λ e. (cc), inr tt)
+refusal_ends (fault.Parse (parse.Syntax k)) = (λ h. h, λ e. (cc), inr tt)
+refusal_ends (fault.Parse (parse.Nesting k)) = (λ h. h, λ e. (cc), inr tt)
+refusal_ends (fault.Parse (parse.NameTwice k)) = (λ h. h, λ e. (cc), inr tt)
+refusal_ends (fault.Parse (parse.NameUnknown k)) = (λ h. h, λ e. (cc), inr tt)
+refusal_ends (fault.Parse (parse.Build (build.Full n))) = (λ h. h, λ e. (cc), inr tt)
+refusal_ends (fault.Parse (parse.Build (build.Nodes n))) = (λ h. h, λ e. (cc), inr tt)
+refusal_ends (fault.Parse (parse.Build (build.Depth n))) = (λ h. h, λ e. (cc), inr tt)
+refusal_ends (fault.Parse (parse.Build build.OutOfMemory)) = (λ h. h, λ e. (cc), inl refl)
+refusal_ends (fault.Script k) = (λ h. h, λ e. (cc), inr tt)
+refusal_ends (fault.Types x) = (λ h. h, λ e. (cc), inr tt)
+refusal_ends (fault.Scope x) = (λ h. h, λ e. (cc), inr tt)
+refusal_ends (fault.Group k x) = (λ h. h, λ e. (cc), inr tt)
+refusal_ends (fault.Query k) = (λ h. h, λ e. (cc), inr tt)
+refusal_ends (fault.Room need) = (λ h. h, λ e. (cc), inr tt)
+refusal_ends fault.OutOfMemory = (λ h. h, λ e. (cc), inl refl)
 
 -- of two kinds of statuses, the second speaks
 refused_speaks : (s : Status) → (s ≡ status.Memory) ⊎ SpeaksOfFile s → (s ≡ status.Memory) ⊎ Speaks s
@@ -217,7 +218,7 @@ refused_speaks s (inr h) = inr (inr h)
 
 expected_speaks : (c : Command) (s : Status) (r : Result Content FileError) → IsExpected c r s → (s ≡ status.Memory) ⊎ Speaks s
 expected_speaks c s (Ok f) h = inr (ends_speak c f f.script s h)
-expected_speaks c s (Err x) h = subst (λ y. (y ≡ status.Memory) ⊎ Speaks y) (sym h) (refused_speaks (ended_by x) (refusal_speaks x))
+expected_speaks c s (Err x) h = subst (λ y. (y ≡ status.Memory) ⊎ Speaks y) (sym h) (refused_speaks (ended_by x) (refusal_ends x).2)
 
 pub judged_speaks : (c : Command) (s : Status) (source : Given) → Judged c s source → (s ≡ status.Memory) ⊎ Speaks s
 judged_speaks c status.Memory source j = inl refl
@@ -245,16 +246,23 @@ speaks_never s (inr (inr h)) = (λ e. subst SpeaksOfFile e h, λ e. subst Speaks
 -- reports without a file
 
 pub sound_without : (r : Report) → r.file ≡ None → IsSound r
-sound_without r e = subst (λ (o : Option SourceFile). IfSome o (λ f. (k : ℕ) (query : Tree) (s : List Term) → slice_get (queries_in (declared_in r)) k ≡ Some query → slice_get r.verdicts.items k ≡ Some (Proved s) → HoldsUpTo (declared_in r) (contexts_in r) (game_in r f) query s)) (sym e) tt
+sound_without r e = subst (λ (o : Option SourceFile). IfSome o (λ f. (c : Course) → TakesSteps r f c → HoldsAlong r f c)) (sym e) tt
 
 pub close_without : (r : Report) → r.file ≡ None → HasCloseGames r
-close_without r e = subst (λ (o : Option SourceFile). IfSome o (λ f. (k : ℕ) (x : Entry) (g : Game) → slice_get r.trail.items k ≡ Some x → x.next ≡ Some g → IsWithin (declared_in r) (contexts_in r) (game_in r f) (tree_at r.work.pool.trees (Some g.root)) (summed [] (map (λ x. x.cost) (take (k + 1) r.trail.items))))) (sym e) tt
+close_without r e = subst (λ (o : Option SourceFile). IfSome o (λ f. (c : Course) → Leads r f c → AreClose r f c)) (sym e) tt
 
 pub steps_without : (r : Report) → r.file ≡ None → HasCloseSteps r
-steps_without r e = subst (λ (o : Option SourceFile). IfSome o (λ f. (k : ℕ) (x : Entry) (g : Game) → slice_get r.trail.items k ≡ Some x → x.next ≡ Some g → IsCloseStep (declared_in r) (contexts_in r) (game_along r.work.pool.trees (game_in r f) (take k r.trail.items)) (tree_at r.work.pool.trees (Some g.root)) x.cost)) (sym e) tt
+steps_without r e = subst (λ (o : Option SourceFile). IfSome o (λ f. (c : Course) → Leads r f c → AreCloseSteps r f c)) (sym e) tt
 
 pub calls_without : (r : Report) → r.file ≡ None → HasBoundedCalls r
-calls_without r e = subst (λ (o : Option SourceFile). IfSome o (λ f. (k : ℕ) (x : Entry) (h : Shape) → slice_get r.trail.items k ≡ Some x → x.context ≡ Some h → MatchOption (context_of (contexts_in r) (suc k)) ⊥ (AreBounded (declared_in r) (shape_in h)))) (sym e) tt
+calls_without r e = subst (λ (o : Option SourceFile). IfSome o (λ f. (c : Course) → Leads r f c → AreBoundedCalls r f c)) (sym e) tt
+
+pub live_without : (r : Report) → r.file ≡ None → IsLive r
+live_without r e = subst (λ (o : Option SourceFile). IfSome o (λ f. f.game.root.0 < length r.work.pool.trees)) (sym e) tt
+
+-- the course of no file
+abbrev pub nowhere : Course
+nowhere = course_at Empty
 
 -- no file is read from a source, the told one where there is any
 abbrev told_source : Option Given → Given
@@ -265,109 +273,92 @@ are_told : (told : Option Given) → AreTold told (told_source told)
 are_told None = tt
 are_told (Some source) = refl
 
-answers_of : (told : Option Given) (source : Given) (r : Report) → AreTold told source → r.file ≡ None → SaysNothing r → (HasFile r.status → ⊥) → (r.command ≡ command.Games → r.status ≡ status.Done → ⊥) → (SpeaksOfFile r.status → Judged r.command r.status source) → Answers told r
+answers_of : (told : Option Given) (source : Given) (r : Report) → AreTold told source → r.file ≡ None → SaysNothing r → (HasFile r.status → ⊥) → (r.command ≡ command.Games → r.status ≡ status.Done → ⊥) → (SpeaksOfFile r.status → Judged r.command r.status source) → Answers told r nowhere
 answers_of told source r a e n h d j = record {
   source = source;
   agree = a;
-  short = λ s. absurd (let t = subst (λ (o : Option SourceFile). IsSome o) e s in cc);
+  short = λ s. absurd (without s);
   names = 0;
   file = subst (λ (o : Option SourceFile). IfSome o (λ f. IsFile most_pool source (file_in r f 0))) (sym e) tt;
-  drawn = subst (λ (o : Option SourceFile). IfSome o (λ f. HasDrawn r (file_in r f 0))) (sym e) tt;
-  follows = subst (λ (o : Option SourceFile). MatchOption o (SaysNothing r) (λ f. Proceeds r f (steps_in r))) (sym e) n;
+  course = subst (λ (o : Option SourceFile). IfSome o (λ f. IsCourse (is_without_block (steps_in r)) (declared_in r) r.work.decls.own (game_in r f) (names_in r 0) nowhere)) (sym e) tt;
+  drawn = λ s n. absurd (without s);
+  follows = subst (λ (o : Option SourceFile). MatchOption o (SaysNothing r) (λ f. Proceeds r f nowhere (steps_in r))) (sym e) n;
   given = λ s. absurd (h s);
-  only = λ s. absurd (let t = subst (λ (o : Option SourceFile). IsSome o) e s in cc);
+  only = λ s. absurd (without s);
   shown = λ g s. absurd (d g s);
   judged = j;
 }
+  where
+    without : IsSome r.file → ⊥
+    without s = let t = subst (λ (o : Option SourceFile). IsSome o) e s in cc
 
-answers_without : (told : Option Given) (r : Report) → r.file ≡ None → SaysNothing r → (HasFile r.status → ⊥) → (r.command ≡ command.Games → r.status ≡ status.Done → ⊥) → (SpeaksOfFile r.status → ⊥) → Answers told r
+answers_without : (told : Option Given) (r : Report) → r.file ≡ None → SaysNothing r → (HasFile r.status → ⊥) → (r.command ≡ command.Games → r.status ≡ status.Done → ⊥) → (SpeaksOfFile r.status → ⊥) → Answers told r nowhere
 answers_without told r e n h d j = answers_of told (told_source told) r (are_told told) e n h d (λ s. absurd (j s))
 
-pub memory_answers : (told : Option Given) (r : Report) → r.file ≡ None → SaysNothing r → r.status ≡ status.Memory → Answers told r
-memory_answers told r e n s = answers_without told r e n (λ h. subst HasFile s h) (λ g d. (let h = sym s ∙ d in cc)) (λ h. subst SpeaksOfFile s h)
+-- no lines are put of them
 
-pub memory_cause : (o : Outside) (r : Report) → r.status ≡ status.Memory → ComesFrom o r r.status
-memory_cause o r s = subst (ComesFrom o r) (sym s) cause.memory
+nothing_put : (before : Option (List ℕ)) → TakesAll before before []
+nothing_put None = tt
+nothing_put (Some first) = sym (append-nil first)
+
+and_false : (b : Bool) → (b && false) ≡ false
+and_false true = refl
+and_false false = refl
+
+nothing_streamed : (l : Lines) (before : Option (List ℕ)) (old : ℕ) (s : Stream) → l.legs ≡ [] → IsSilent s → Streams false l before before old old s
+unfolding games_along
+nothing_streamed l before old s n q = record {
+  later = omega arith;
+  shown = q.shows;
+  order = λ f e. absurd (cc);
+  steps = q.steps ∙ sym (ap length n);
+  game = q.game ∙ sym (ap (games_along 2) n);
+  put = subst (λ (f : Flow). IsPut f before before old old []) (sym q.flow) (nothing_put before);
+}
+
+begins_without : (o : Outside) (before : Option (List ℕ)) (old : ℕ) (s : Stream) (r : Report) → r.file ≡ None → IsSilent s → Answers o.told r nowhere → ComesFrom o r nowhere r.status → Begins o before before old old s r
+unfolding legs_of
+begins_without o before old s r e q answers cause = record {
+  course = nowhere;
+  answers = answers;
+  cause = cause;
+  streams = subst (λ (x : Option SourceFile). Streams (is_streamed r.command && is_some x) (lines_by r answers.names nowhere x) before before old old s) (sym e)
+      (subst (λ (b : Bool). Streams b (lines_by r answers.names nowhere None) before before old old s) (sym (and_false (is_streamed r.command))) (nothing_streamed (lines_by r answers.names nowhere None) before old s refl q));
+}
+
+pub memory_begins : (o : Outside) (before : Option (List ℕ)) (old : ℕ) (s : Stream) (r : Report) → r.file ≡ None → SaysNothing r → IsSilent s → r.status ≡ status.Memory → Begins o before before old old s r
+memory_begins o before old s r e n q m =
+    begins_without o before old s r e q (answers_without o.told r e n (λ h. subst HasFile m h) (λ g d. (let h = sym m ∙ d in cc)) (λ h. subst SpeaksOfFile m h)) (subst (ComesFrom o r nowhere) (sym m) cause.memory)
 
 -- bytes that are refused
-
-refusal_has_none : (x : FileError) → HasFile (ended_by x) → ⊥
-refusal_has_none (fault.Lex x) h = h
-refusal_has_none (fault.LibraryLex x) h = h
-refusal_has_none (fault.Library x) h = h
-refusal_has_none (fault.Expand x) h = h
-refusal_has_none (fault.Tokens n) h = h
-refusal_has_none (fault.Parse (parse.Syntax k)) h = h
-refusal_has_none (fault.Parse (parse.Nesting k)) h = h
-refusal_has_none (fault.Parse (parse.NameTwice k)) h = h
-refusal_has_none (fault.Parse (parse.NameUnknown k)) h = h
-refusal_has_none (fault.Parse (parse.Build (build.Full n))) h = h
-refusal_has_none (fault.Parse (parse.Build (build.Nodes n))) h = h
-refusal_has_none (fault.Parse (parse.Build (build.Depth n))) h = h
-refusal_has_none (fault.Parse (parse.Build build.OutOfMemory)) h = h
-refusal_has_none (fault.Script k) h = h
-refusal_has_none (fault.Types x) h = h
-refusal_has_none (fault.Scope x) h = h
-refusal_has_none (fault.Group k x) h = h
-refusal_has_none (fault.Query k) h = h
-refusal_has_none (fault.Room need) h = h
-refusal_has_none fault.OutOfMemory h = h
-
-refusal_not_done : (x : FileError) → ended_by x ≡ status.Done → ⊥
-refusal_not_done (fault.Lex x) e = (cc)
-refusal_not_done (fault.LibraryLex x) e = (cc)
-refusal_not_done (fault.Library x) e = (cc)
-refusal_not_done (fault.Expand x) e = (cc)
-refusal_not_done (fault.Tokens n) e = (cc)
-refusal_not_done (fault.Parse (parse.Syntax k)) e = (cc)
-refusal_not_done (fault.Parse (parse.Nesting k)) e = (cc)
-refusal_not_done (fault.Parse (parse.NameTwice k)) e = (cc)
-refusal_not_done (fault.Parse (parse.NameUnknown k)) e = (cc)
-refusal_not_done (fault.Parse (parse.Build (build.Full n))) e = (cc)
-refusal_not_done (fault.Parse (parse.Build (build.Nodes n))) e = (cc)
-refusal_not_done (fault.Parse (parse.Build (build.Depth n))) e = (cc)
-refusal_not_done (fault.Parse (parse.Build build.OutOfMemory)) e = (cc)
-refusal_not_done (fault.Script k) e = (cc)
-refusal_not_done (fault.Types x) e = (cc)
-refusal_not_done (fault.Scope x) e = (cc)
-refusal_not_done (fault.Group k x) e = (cc)
-refusal_not_done (fault.Query k) e = (cc)
-refusal_not_done (fault.Room need) e = (cc)
-refusal_not_done fault.OutOfMemory e = (cc)
-
-pub refusal_answers : (told : Option Given) (r : Report) (source : Given) (x : FileError) → AreTold told source → Refuses most_pool source x → r.status ≡ ended_by x → r.file ≡ None → SaysNothing r → Answers told r
-refusal_answers told r source x a f s e n =
-    answers_of told source r a e n (λ h. refusal_has_none x (subst HasFile s h)) (λ g d. refusal_not_done x (sym s ∙ d)) (λ h. subst (λ y. Judged r.command y source) (sym s) (judged_fault r.command x source f))
+pub refusal_begins : (o : Outside) (before : Option (List ℕ)) (old : ℕ) (s : Stream) (r : Report) (source : Given) (x : FileError) → AreTold o.told source → Refuses most_pool source x → r.status ≡ ended_by x → r.file ≡ None → SaysNothing r → IsSilent s → Begins o before before old old s r
+refusal_begins o before old s r source x a f m e n q =
+    begins_without o before old s r e q
+    (answers_of o.told source r a e n (λ h. (refusal_ends x).0 (subst HasFile m h)) (λ g d. (refusal_ends x).1 (sym m ∙ d)) (λ h. subst (λ y. Judged r.command y source) (sym m) (judged_fault r.command x source f)))
+    (subst (ComesFrom o r nowhere) (sym m) (refusal_cause o r nowhere source a e x f))
 
 -- a file that isn't fetched
 
-pub fetch_answers : (told : Option Given) (r : Report) (x : FetchError) → r.status ≡ fetch_ended x → r.file ≡ None → SaysNothing r → Answers told r
-fetch_answers told r x s e n = answers_without told r e n (λ h. no_file x (subst HasFile s h)) (λ g d. not_done x (sym s ∙ d)) (λ h. speaks_not x (subst SpeaksOfFile s h))
-  where
-    not_done : (x : FetchError) → fetch_ended x ≡ status.Done → ⊥
-    not_done fetch.Failed d = (cc)
-    not_done fetch.Long d = (cc)
-    not_done fetch.OutOfMemory d = (cc)
+abbrev EndsUnread : Status → Type 0
+EndsUnread s = (HasFile s → ⊥) × (s ≢ status.Done) × (SpeaksOfFile s → ⊥) × (s ≢ status.Words) × (s ≢ status.Write)
 
-    no_file : (x : FetchError) → HasFile (fetch_ended x) → ⊥
-    no_file fetch.Failed h = h
-    no_file fetch.Long h = h
-    no_file fetch.OutOfMemory h = h
+unread_ends : (x : FetchError) → EndsUnread (fetch_ended x)
+unread_ends fetch.Failed = (λ h. h, λ e. (cc), λ h. h, λ e. (cc), λ e. (cc))
+unread_ends fetch.Long = (λ h. h, λ e. (cc), λ h. h, λ e. (cc), λ e. (cc))
+unread_ends fetch.OutOfMemory = (λ h. h, λ e. (cc), λ h. h, λ e. (cc), λ e. (cc))
 
-    speaks_not : (x : FetchError) → SpeaksOfFile (fetch_ended x) → ⊥
-    speaks_not fetch.Failed h = h
-    speaks_not fetch.Long h = h
-    speaks_not fetch.OutOfMemory h = h
-
-pub fetch_cause : (o : Outside) (r : Report) (x : FetchError) → (x ≡ fetch.Failed → Rose o.before o.after) → (x ≡ fetch.Long → IfSome o.told IsLong) → ComesFrom o r (fetch_ended x)
+fetch_cause : (o : Outside) (r : Report) (x : FetchError) → (x ≡ fetch.Failed → Rose o.before o.after) → (x ≡ fetch.Long → IfSome o.told IsLong) → ComesFrom o r nowhere (fetch_ended x)
 fetch_cause o r fetch.Failed f l = cause.read (f refl)
 fetch_cause o r fetch.Long f l = cause.long (l refl)
 fetch_cause o r fetch.OutOfMemory f l = cause.memory
 
+pub fetch_begins : (o : Outside) (before : Option (List ℕ)) (old : ℕ) (s : Stream) (r : Report) (x : FetchError) → (x ≡ fetch.Failed → Rose o.before o.after) → (x ≡ fetch.Long → IfSome o.told IsLong) → r.status ≡ fetch_ended x → r.file ≡ None → SaysNothing r → IsSilent s → Begins o before before old old s r
+fetch_begins o before old s r x f l m e n q =
+    begins_without o before old s r e q (answers_without o.told r e n (λ h. (unread_ends x).0 (subst HasFile m h)) (λ g d. (unread_ends x).1 (sym m ∙ d)) (λ h. (unread_ends x).2 (subst SpeaksOfFile m h)))
+    (subst (ComesFrom o r nowhere) (sym m) (fetch_cause o r x f l))
+
 pub fetch_never : (x : FetchError) → (fetch_ended x ≢ status.Words) × (fetch_ended x ≢ status.Write)
-fetch_never fetch.Failed = (λ e. (cc), λ e. (cc))
-fetch_never fetch.Long = (λ e. (cc), λ e. (cc))
-fetch_never fetch.OutOfMemory = (λ e. (cc), λ e. (cc))
+fetch_never x = ((unread_ends x).3, (unread_ends x).4)
 
 pub fetch_complete : (c : Command) (told : Option Given) (x : FetchError) (before after : ℕ) → (x ≡ fetch.Failed → Rose before after) → (x ≡ fetch.Long → IfSome told IsLong) → NoFault before after → IfSome told (λ (b : Given). IsComplete c b (fetch_ended x))
 fetch_complete c None x before after f l n = tt
@@ -377,19 +368,16 @@ fetch_complete c (Some b) fetch.OutOfMemory before after f l n = record { short 
 
 -- words that give no command, and a sample whose text is asked for
 
-pub words_answers : (told : Option Given) (r : Report) → r.file ≡ None → SaysNothing r → r.status ≡ status.Words → Answers told r
-words_answers told r e n s = answers_without told r e n (λ h. subst HasFile s h) (λ g d. (let h = sym s ∙ d in cc)) (λ h. subst SpeaksOfFile s h)
+pub words_begins : (o : Outside) (before : Option (List ℕ)) (old : ℕ) (s : Stream) (r : Report) → r.file ≡ None → SaysNothing r → IsSilent s → r.status ≡ status.Words → o.asked ≡ None → Begins o before before old old s r
+words_begins o before old s r e n q m w =
+    begins_without o before old s r e q (answers_without o.told r e n (λ h. subst HasFile m h) (λ g d. (let h = sym m ∙ d in cc)) (λ h. subst SpeaksOfFile m h))
+    (subst (ComesFrom o r nowhere) (sym m) (cause.words (subst (λ (a : Option Asked). IsNone a) (sym w) refl)))
 
-pub words_cause : (o : Outside) (r : Report) → r.status ≡ status.Words → o.asked ≡ None → ComesFrom o r r.status
-words_cause o r s e = subst (ComesFrom o r) (sym s) (cause.words (subst (λ (n : Option Asked). IsNone n) (sym e) refl))
-
-pub text_answers : (told : Option Given) (r : Report) → r.file ≡ None → SaysNothing r → (r.command ≡ command.Games → ⊥) → r.status ≡ status.Done → Answers told r
-text_answers told r e n g s = answers_without told r e n (λ h. subst HasFile s h) (λ c d. g c) (λ h. subst SpeaksOfFile s h)
-
-pub text_cause : (o : Outside) (r : Report) (asked : Asked) (n : ℕ) → r.status ≡ status.Done → o.asked ≡ Some asked → text_asked asked ≡ Some n → ComesFrom o r r.status
-text_cause o r asked n s e t =
-    subst (ComesFrom o r) (sym s)
-    (cause.sampled (subst (λ (a : Option Asked). IsSome (option_and_then text_asked a)) (sym e) (subst (λ (x : Option ℕ). IsSome x) (sym t) refl)))
+pub text_begins : (o : Outside) (before : Option (List ℕ)) (old : ℕ) (s : Stream) (r : Report) (asked : Asked) (k : ℕ) → r.file ≡ None → SaysNothing r → IsSilent s → (r.command ≡ command.Games → ⊥) → r.status ≡ status.Done → o.asked ≡ Some asked → text_asked asked ≡ Some k → Begins o before before old old s r
+text_begins o before old s r asked k e n q g m w t =
+    begins_without o before old s r e q (answers_without o.told r e n (λ h. subst HasFile m h) (λ c d. g c) (λ h. subst SpeaksOfFile m h))
+    (subst (ComesFrom o r nowhere) (sym m)
+    (cause.sampled (subst (λ (a : Option Asked). IsSome (option_and_then text_asked a)) (sym w) (subst (λ (x : Option ℕ). IsSome x) (sym t) refl))))
 
 -- where no bytes are told nothing is called for
 pub untold_complete : (told : Option Given) (P : Given → Type 0) → told ≡ None → IfSome told P
@@ -412,6 +400,4 @@ pub memory_complete : (c : Command) (told : Option Given) (s : Status) → s ≡
 memory_complete c None s e = tt
 memory_complete c (Some b) s e = subst (λ (x : Status). IsComplete c b x) (sym e) (record { short = λ k. tt; long = λ k. inr refl })
 
--- words that give a command
-
-pub ruleset without_file = (sound_without, close_without, steps_without, calls_without, memory_answers, memory_cause, words_answers, words_cause, text_answers, text_cause, text_untold, text_no_games, untold_complete)
+pub ruleset without_file = (sound_without, close_without, steps_without, calls_without, live_without, memory_begins, words_begins, text_begins, text_untold, text_no_games, untold_complete)

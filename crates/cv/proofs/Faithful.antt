@@ -1,14 +1,11 @@
--- The games of a report are close to the first: its steps are links of a chain, each with the price of its context.
+-- The games of a course are close to the first: its steps are links of a chain, each with the price of its context.
 use Rattle.std.proofs.Common.{◌≡◌, ℕ, zero, suc, ◌+◌, ◌<◌, ◌≤◌, ◌==◌, Bool, true, false, if◌then◌else◌, List, [], ◌∷◌, ◌++◌, length, map, drop, take, refl, ap, ap₂, sym, ◌∙◌, subst, arith, append_assoc, Option, Some, None, option_and_then, Ok, ◌⊎◌, inl, inr}
 use Rattle.std.proofs.lemmas.Bool.Decides.{nat_tests}
 use Rattle.std.proofs.lemmas.List.{map-append, take-append-drop}
 use Rattle.std.specs.Prelude.{IfSome, slice_get, option_map}
-use Rattle.cv_pool.specs.KindTree.{KindTree}
 use Rattle.cv_syntax.specs.declared.work.File.{File}
-use Rattle.cv_syntax.specs.declared.work.Game.{Game}
 use Rattle.cv_syntax_trees.specs.Declarations.{Declaration}
 use Rattle.cv_syntax_trees.specs.Tree.{Tree}
-use Rattle.cv_syntax.specs.PoolTrees.{tree_at}
 use Rattle.cv_library.specs.Givens.{Given}
 use Rattle.cv_accept.specs.Accepted.{Content, read_of, most_bytes, most_pool}
 use Rattle.cv_bound.specs.declared.terms.Experiment.TheVariants.{Events}
@@ -29,9 +26,8 @@ use Rattle.cv_meaning_chances.specs.Fractions.{HasTapes}
 use Rattle.cv_meaning_chances.proofs.FractionLaws.{at_most_trans}
 use Rattle.cv_costs.specs.Certificates.{cost_of_certificate}
 use Rattle.cv_kernel.specs.Closings.{Closing, closing_in, closing_of_items}
-use Rattle.cv_kernel.specs.Proofs.{IsProof, IsTransition, Transition, closed_by, game_behind, push, start, sums_behind}
+use Rattle.cv_kernel.specs.Proofs.{IsProof, IsTransition, Transition, closed_by, push, start, sums_behind}
 use Rattle.cv_kernel.specs.Sayings.{Accepted, MaySay}
-use Rattle.cv_report.specs.declared.report.Entry.{Entry}
 use Rattle.cv_report.specs.declared.report.Report.{Report}
 use Rattle.cv_scene.specs.Reductions.{context_of_game}
 use Rattle.cv_scene.specs.Scenes.{Scene}
@@ -45,20 +41,19 @@ use Rattle.cv_steps.specs.Sequences.{scene}
 use Rattle.cv_steps_laws.specs.crypto.Conditions.{equivalence_of}
 use Rattle.cv_steps_laws.specs.crypto.Steps.{reduction_of}
 use Rattle.cv_derive_laws.specs.stores.Soundness.{DerivationsHold, DerivedBodiesAreUnreached}
-use Rattle.cv.specs.Contexts.{context_by, context_for, contexts_from, contexts_in, contexts_of_file, game_behind as game_of_entry, with_context}
-use Rattle.cv.specs.Games.{HasCloseGames, IsWithin}
-use Rattle.cv.specs.Runs.{Runs}
-use Rattle.cv_follow.specs.Scripts.{Told, entry_in, entry_of, known_to}
-use Rattle.cv.proofs.Commands.{Taken, taken}
-use Rattle.cv.specs.Strategy.{TakesSteps, declared_in, file_in, game_in, steps_in}
+use Rattle.cv.specs.Contexts.{context_by, context_for, contexts_along, game_along, with_context}
+use Rattle.cv.specs.Games.{AreClose, HasCloseGames, IsWithin}
+use Rattle.cv.specs.Runs.{HasRun}
+use Rattle.cv_follow.specs.Courses.{Course}
+use Rattle.cv_kernel.specs.Followed.{known_to, sums_along}
+use Rattle.cv.specs.Strategy.{Leads, declared_in, file_in, game_in}
 use Rattle.cv.specs.Values.{Contexts, advantage_of, advantages_in, context_of}
 use Rattle.cv_sequences.specs.secrets.Sums.{summed_by}
 use Rattle.cv_sequences.proofs.secrets.Sums.{plain, put}
 use Rattle.cv_sequences.proofs.files.kernel.rules.Sound.{sound}
-use Rattle.cv_follow.specs.Walks.{sums_along}
-use Rattle.cv_follow.proofs.Closings.{sum_put}
-use Rattle.cv_follow.proofs.StepKinds.{Kind, closure, kind_of, passage, reduction}
-use Rattle.cv_follow.proofs.StepKinds as kind
+use Rattle.cv_kernel.proofs.Closings.{sum_put}
+use Rattle.cv_kernel.proofs.StepKinds.{Kind, closure, kind_of, passage, reduction}
+use Rattle.cv_kernel.proofs.StepKinds as kind
 use Rattle.cv_sequences.proofs.files.Ready.{file_of, taped, valued}
 use Rattle.cv_accept.proofs.Readings.{accepted}
 use Rattle.cv.proofs.Costing.{AreDecided, AreNumbers, HaveTapedClosings, IsNoLess, both_more, closings_taped, one_more}
@@ -160,34 +155,21 @@ found_later : (m n : ℕ) (o : Option Context) (cs : Contexts) → m < n → con
 found_later m n None cs l = refl
 found_later m n (Some c) cs l = other_number m n c cs l (m == n) refl
 
--- those of transitions: a step that closes a query keeps the game
+-- the contexts and games of transitions
 
-abbrev pub game_kept : (game : Tree) → Option Closing → (next : Tree) → Tree
-game_kept game None next = next
-game_kept game (Some c) next = game
-
-module _ (ds : List Declaration) (own : ℕ) where
-  abbrev pub contexts_along : (step : ℕ) → (game : Tree) → List Transition → Contexts
-  contexts_along step game [] = []
-  contexts_along step game (t ∷ ts) = with_context step (context_by ds own game t.step) (contexts_along (suc step) (game_kept game (closing_in t.step) t.next) ts)
-
-abbrev pub game_along : (game : Tree) → List Transition → Tree
-game_along game [] = game
-game_along game (t ∷ ts) = game_along (game_kept game (closing_in t.step) t.next) ts
-
-along_put : (game : Tree) (ts : List Transition) (t : Transition) → game_along game (ts ++ t ∷ []) ≡ game_kept (game_along game ts) (closing_in t.step) t.next
+along_put : (game : Tree) (ts : List Transition) (t : Transition) → game_along game (ts ++ t ∷ []) ≡ t.next
 along_put game [] t = refl
-along_put game (u ∷ ts) t = along_put (game_kept game (closing_in u.step) u.next) ts t
+along_put game (u ∷ ts) t = along_put u.next ts t
 
 context_at : (ds : List Declaration) (own step : ℕ) (game : Tree) (before : List Transition) (t : Transition) (behind : List Transition) (c : Context) → context_by ds own (game_along game before) t.step ≡ Some c
     → context_of (contexts_along ds own step game (before ++ t ∷ behind)) (step + length before) ≡ Some c
 context_at ds own step game [] t behind c e =
     let n : step + 0 ≡ step = omega arith in
-    let rest = contexts_along ds own (suc step) (game_kept game (closing_in t.step) t.next) behind in
+    let rest = contexts_along ds own (suc step) t.next behind in
     ap (context_of (contexts_along ds own step game (t ∷ behind))) n ∙ (ap (λ o. context_of (with_context step o rest) step) e ∙ found_here step c rest (step == step) refl)
 context_at ds own step game (u ∷ before) t behind c e =
     let n : step + suc (length before) ≡ suc step + length before = omega arith in
-    let to = game_kept game (closing_in u.step) u.next in
+    let to = u.next in
     let rest = contexts_along ds own (suc step) to (before ++ t ∷ behind) in
     found_later step (step + suc (length before)) (context_by ds own game u.step) rest (omega arith) ∙ (ap (context_of rest) n ∙ context_at ds own (suc step) to before t behind c e)
 
@@ -295,14 +277,9 @@ module _ (ds : List Declaration) (own : ℕ) (first : Tree) where
     link_by (Some c) n there i = link_none c n i
 
   -- the games of a proof
-  kept_by : (game : Tree) (t : Transition) (n : ℕ) (ks : List ℕ) → IsTransition ds (known_to own) n ks game t → (o : Option Closing) → closing_in t.step ≡ o → game_kept game o t.next ≡ t.next
-  kept_by game t n ks i None e = refl
-  kept_by game t n ks i (Some c) e = sym (closure (at game) ks n t.step c t.next t.cost e i.accepted).game
-
   pub along_is : (ts : List Transition) (last : Tree) → IsProof ds (known_to own) first ts last → game_along first ts ≡ last
   along_is ts last start = refl
-  along_is ts last (push before game t p i) =
-      along_put first before t ∙ (ap (λ g. game_kept g (closing_in t.step) t.next) (along_is before game p) ∙ kept_by game t (suc (length before)) (closed_by before) i (closing_in t.step) refl)
+  along_is ts last (push before game t p i) = along_put first before t
 
   pub context_numbered : (before : List Transition) (game : Tree) → IsProof ds (known_to own) first before game → (t : Transition) (rest : List Transition) → HasContextAt ds own (contexts_along ds own 1 first (before ++ t ∷ rest)) (suc (length before)) game t
   context_numbered before game p t rest c e =
@@ -370,60 +347,7 @@ module _ (ds : List Declaration) (own : ℕ) (first : Tree) where
         at_most_trans (distance (chance_of (setting_of ds i) x a first) (chance_of (setting_of ds i) x a last)) (sum_value i advantages (sum_for false (sums_along no_sums ts))) (sum_value i advantages (summed [] (map (λ t. t.cost) ts))) worth near all.more,
       )
 
--- the trail of a report
-
--- what stands in one list stands in the other, where they say the same
-pub matched : (trees : List KindTree) (es : List Entry) (ts : List Transition) (k : ℕ) (e : Entry) → map (entry_in trees) es ≡ map entry_of ts → slice_get es k ≡ Some e → (t : Transition) × (slice_get ts k ≡ Some t) × (entry_in trees e ≡ entry_of t)
-matched trees [] ts k e m h = absurd (cc)
-matched trees (x ∷ es) [] k e m h = absurd (cc)
-matched trees (x ∷ es) (t ∷ ts) zero e m h = let f : x ≡ e = cc in (t, refl, ap (entry_in trees) (sym f) ∙ (cc))
-matched trees (x ∷ es) (t ∷ ts) (suc k) e m h = matched trees es ts k e (cc) h
-
-same_costs : (trees : List KindTree) (es : List Entry) (ts : List Transition) (n : ℕ) → map (entry_in trees) es ≡ map entry_of ts → map (λ x. x.cost) (take n es) ≡ map (λ t. t.cost) (take n ts)
-same_costs trees es ts zero m = refl
-same_costs trees [] [] (suc n) m = refl
-same_costs trees [] (t ∷ ts) (suc n) m = absurd (cc)
-same_costs trees (x ∷ es) [] (suc n) m = absurd (cc)
-same_costs trees (x ∷ es) (t ∷ ts) (suc n) m =
-    let f : entry_in trees x ≡ entry_of t = cc in
-    ap₂ (λ c cs. c ∷ cs) (ap (λ (y : Told). y.1) f) (same_costs trees es ts n (cc))
-
-next_behind_step : (c : Option Closing) (t g : Tree) → game_behind c t ≡ Some g → t ≡ g
-next_behind_step None t g e = cc
-next_behind_step (Some d) t g e = absurd (cc)
-
-pub next_tree : (trees : List KindTree) (e : Entry) (t : Transition) (g : Game) → entry_in trees e ≡ entry_of t → e.next ≡ Some g → t.next ≡ tree_at trees (Some g.root)
-next_tree trees e t g m n =
-    next_behind_step (closing_in t.step) t.next (tree_at trees (Some g.root))
-    (sym (ap (λ (y : Told). y.3) m) ∙ ap (option_map (λ h. tree_at trees (Some h.root))) n)
-
--- the contexts of its entries are those of the transitions
-
-pub same_game : (trees : List KindTree) (game next : Tree) (o : Option Game) (c : Option Closing) → option_map (λ h. tree_at trees (Some h.root)) o ≡ game_behind c next → game_of_entry trees game o ≡ game_kept game c next
-same_game trees game next None None e = absurd (cc)
-same_game trees game next None (Some c) e = refl
-same_game trees game next (Some g) None e = cc
-same_game trees game next (Some g) (Some c) e = absurd (cc)
-
-pub same_contexts : (ds : List Declaration) (own : ℕ) (trees : List KindTree) (step : ℕ) (game : Tree) (es : List Entry) (ts : List Transition) → map (entry_in trees) es ≡ map entry_of ts → contexts_from ds own trees step game es ≡ contexts_along ds own step game ts
-unfolding contexts_from
-same_contexts ds own trees step game [] [] m = refl
-same_contexts ds own trees step game [] (t ∷ ts) m = absurd (cc)
-same_contexts ds own trees step game (e ∷ es) [] m = absurd (cc)
-same_contexts ds own trees step game (e ∷ es) (t ∷ ts) m =
-    let f : entry_in trees e ≡ entry_of t = cc in
-    let to = same_game trees game t.next e.next (closing_in t.step) (ap (λ (y : Told). y.3) f) in
-    ap₂ (λ s cs. with_context step (context_by ds own game s) cs) (ap (λ (y : Told). y.0) f)
-    (ap (λ g. contexts_from ds own trees (suc step) g es) to ∙ same_contexts ds own trees (suc step) (game_kept game (closing_in t.step) t.next) es ts (cc))
-
--- those of a report that took steps
-pub contexts_taken : (r : Report) (f : File) (w : TakesSteps r f) → r.file ≡ Some f → contexts_in r ≡ contexts_along (declared_in r) r.work.decls.own 1 (game_in r f) w.proof
-contexts_taken r f w e = ap (contexts_of_file r) e ∙ same_contexts (declared_in r) r.work.decls.own r.work.pool.trees 1 (game_in r f) r.trail.items w.proof w.trail
-
-abbrev AreClose : Report → File → Type 0
-AreClose r f =
-    (k : ℕ) (e : Entry) (g : Game) → slice_get r.trail.items k ≡ Some e → e.next ≡ Some g
-    → IsWithin (declared_in r) (contexts_in r) (game_in r f) (tree_at r.work.pool.trees (Some g.root)) (summed [] (map (λ x. x.cost) (take (k + 1) r.trail.items)))
+-- the games of a course of a file that was read
 
 module _ (holds : (ds : List Declaration) → DerivationsHold ds) (unreached : (ds : List Declaration) → DerivedBodiesAreUnreached ds) (numbers : AreNumbers) (decided : AreDecided) (c : Content) (f : File) (r : Report) (source : Given) (reads : read_of most_pool source ≡ Ok c) (few : length source.bytes ≤ most_bytes) where
   close_content : (ts : List Transition) (last : Tree) → IsProof c.declarations (known_to c.own) c.game ts last → (rest : List Transition) → IsWithin c.declarations (contexts_along c.declarations c.own 1 c.game (ts ++ rest)) c.game last (summed [] (map (λ t. t.cost) ts))
@@ -431,26 +355,15 @@ module _ (holds : (ds : List Declaration) → DerivationsHold ds) (unreached : (
       let w = file_of source c reads holds unreached few in
       close c.declarations c.own c.game w (valued source c reads w.ready) (taped source c reads) (closings_taped c.declarations c.own c.game (accepted most_pool source c reads).asked numbers decided) ts last p rest
 
-  steps_close : r.file ≡ Some f → file_in r f (length c.names) ≡ c → TakesSteps r f → AreClose r f
-  steps_close there held w k e g h n =
-      let trees = r.work.pool.trees in
+  games_close : file_in r f (length c.names) ≡ c → (course : Course) → Leads r f course → AreClose r f course
+  games_close held course p k t at =
       let ds = declared_in r in
       let own = r.work.decls.own in
       let first = game_in r f in
-      let ts = w.proof in
-      let m = matched trees r.trail.items ts k e w.trail h in
-      let p = front ds (known_to own) first ts w.last w.leads k m.0 m.1 in
-      let here = subst (λ d. (us : List Transition) (last : Tree) → IsProof d.declarations (known_to d.own) d.game us last → (rest : List Transition) → IsWithin d.declarations (contexts_along d.declarations d.own 1 d.game (us ++ rest)) d.game last (summed [] (map (λ t. t.cost) us))) (sym held) close_content in
-      let whole = here (take (k + 1) ts) m.0.next p (drop (k + 1) ts) in
-      let within_all = subst (λ us. IsWithin ds (contexts_along ds own 1 first us) first m.0.next (summed [] (map (λ t. t.cost) (take (k + 1) ts)))) (take-append-drop (k + 1) ts) whole in
-      let within_trail = subst (λ cs. IsWithin ds cs first m.0.next (summed [] (map (λ t. t.cost) (take (k + 1) ts)))) (sym (contexts_taken r f w there)) within_all in
-      subst (λ cs. IsWithin ds (contexts_in r) first (tree_at trees (Some g.root)) (summed [] cs)) (sym (same_costs trees r.trail.items ts (k + 1) w.trail))
-      (subst (λ t. IsWithin ds (contexts_in r) first t (summed [] (map (λ x. x.cost) (take (k + 1) ts)))) (next_tree trees e m.0 g m.2 n) within_trail)
+      let ts = course.proof in
+      let here = subst (λ (d : Content). (us : List Transition) (last : Tree) → IsProof d.declarations (known_to d.own) d.game us last → (rest : List Transition) → IsWithin d.declarations (contexts_along d.declarations d.own 1 d.game (us ++ rest)) d.game last (summed [] (map (λ u. u.cost) us))) (sym held) close_content in
+      let whole = here (take (k + 1) ts) t.next (front ds (known_to own) first ts course.last p k t at) (drop (k + 1) ts) in
+      subst (λ us. IsWithin ds (contexts_along ds own 1 first us) first t.next (summed [] (map (λ u. u.cost) (take (k + 1) ts)))) (take-append-drop (k + 1) ts) whole
 
-  by_report : Taken r f → r.file ≡ Some f → file_in r f (length c.names) ≡ c → AreClose r f
-  by_report (inl n) there held k e g h m = absurd (let x = sym (ap (λ es. slice_get es k) n) ∙ h in cc)
-  by_report (inr w) there held k e g h m = steps_close there held w k e g h m
-
-  pub run_close : Runs c f r → HasCloseGames r
-  run_close (inl s) = subst (λ (o : Option File). IfSome o (AreClose r)) (sym s.file) tt
-  run_close (inr h) = subst (λ (o : Option File). IfSome o (AreClose r)) (sym h.file) (by_report (taken r f (steps_in r) h.proceeds) h.file h.content)
+  pub run_close : (course : Course) → HasRun c f r course → HasCloseGames r
+  run_close course h = subst (λ (o : Option File). IfSome o (λ g. (k : Course) → Leads r g k → AreClose r g k)) (sym h.file) (games_close h.content)

@@ -18,3 +18,4 @@ pub mod Costing
 pub mod Taped
 pub mod Stepping
 pub mod Bounded
+pub mod Reaching

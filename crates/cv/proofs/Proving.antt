@@ -1,6 +1,6 @@
 -- A query that a proof closes holds up to its sum.
 use Rattle.std.proofs.Common.{◌≡◌, ℕ, suc, ◌+◌, ◌≤◌, Bool, true, false, if◌then◌else◌, List, [], length, drop, take, refl, ap, ap₂, sym, ◌∙◌, subst, arith, mul-pos, Option, Some, None, Ok}
-use Rattle.std.specs.Prelude.{Contains, slice_get}
+use Rattle.std.specs.Prelude.{Contains, IfSome, slice_get}
 use Rattle.std.proofs.lemmas.Bool.{both_ways}
 use Rattle.std.proofs.lemmas.List.{take-append-drop}
 use Rattle.cv_syntax_trees.specs.declared.head.Head.TheVariants.{EventsCertificate, Query, Secret, SecretCertificate, SecretOnce}
@@ -13,7 +13,7 @@ use Rattle.cv_steps.specs.Costs.{cost_of}
 use Rattle.cv_steps.proofs.values.Adding.{tapes_are_kept}
 use Rattle.cv_derive_laws.specs.stores.Costs.{bound_of}
 use Rattle.cv_costs.specs.Certificates.{cost_of_certificate}
-use Rattle.cv_meaning.specs.Advantage.{chance_of, secrecy, secrecy_query}
+use Rattle.cv_meaning.specs.Advantage.{advantage, chance_of, secrecy, secrecy_query}
 use Rattle.cv_meaning.specs.Chances.{AtMost, zero_chance}
 use Rattle.cv_meaning.specs.Experiments.{Breaks, Experiment, Guesses}
 use Rattle.cv_meaning.specs.Interpretation.{Interpretation, setting_of}
@@ -55,18 +55,19 @@ use Rattle.cv.proofs.Closers.{Closes, closed_at, contains_at, first_closing, ver
 use Rattle.cv_bound.specs.closings.Queries.{is_among}
 use Rattle.cv_kernel.specs.Closings.{Closing, closing_failure, closing_in, is_secret}
 use Rattle.cv_kernel.specs.Proofs.{IsProof, IsTransition, Transition, closed_by, sum_of}
-use Rattle.cv.specs.Contexts.{contexts_in}
-use Rattle.cv.specs.Runs.{IsBounded, IsSoundFor}
-use Rattle.cv_follow.specs.Scripts.{known_to}
-use Rattle.cv.specs.Strategy.{Proceeds, ProceedsWithout, TakesSteps, declared_in, file_in, game_in, is_games, steps_in}
-use Rattle.cv.proofs.OpenQueries.{none_proved}
+use Rattle.cv.specs.Contexts.{contexts_along}
+use Rattle.cv.specs.Runs.{HasRun}
+use Rattle.cv_follow.specs.Courses.{Course}
+use Rattle.cv_kernel.specs.Followed.{known_to, sums_along}
+use Rattle.cv_follow.specs.Scripts.{verdicts_of}
+use Rattle.cv.specs.Strategy.{HasVerdicts, HoldsAlong, IsSound, Leads, TakesSteps, declared_in, file_in}
+use Rattle.cv.specs.Strategy as strategy
 use Rattle.cv.specs.Values.{Contexts, advantage_of, advantages_of, context_of, is_once, secret_of, value_of}
-use Rattle.cv_follow.specs.Walks.{sums_along}
-use Rattle.cv_follow.proofs.Closings.{nothing_more}
-use Rattle.cv.proofs.Taped.{HaveTapedContexts, HaveValues, taped_prices}
+use Rattle.cv_kernel.proofs.Closings.{nothing_more}
+use Rattle.cv.proofs.Taped.{HaveTapedContexts, HaveValues, advantages_of_file, taped_prices}
 use Rattle.cv.proofs.Costing.{AreDecided, AreNumbers, asked_query}
-use Rattle.cv.proofs.Faithful.{HasLinks, StandsIn, contexts_along, contexts_taken, cost_for, links_of, prices, stands_in}
-use Rattle.cv_follow.proofs.StepKinds.{IsClosure, closure}
+use Rattle.cv.proofs.Faithful.{HasLinks, StandsIn, cost_for, links_of, prices, stands_in}
+use Rattle.cv_kernel.proofs.StepKinds.{IsClosure, closure}
 use Rattle.cv_sequences.proofs.files.Ready.{events_valued, file, file_of, taped, valued as valued_file}
 
 -- what laws say of certificates that are accepted
@@ -102,6 +103,12 @@ of_one s x certificate h = absurd h
 secret_free : (s : Scene) (certificate : Tree) → is_secret certificate ≡ true → cost_of (cost_of_certificate s certificate) ≡ bound.Zero
 secret_free s (Node SecretCertificate parts e) k = refl
 secret_free s certificate k = absurd (both_ways _ refl k)
+
+-- the sum's value has tapes, and no adversary has a greater advantage against the query
+abbrev pub IsBounded : List Declaration → Contexts → Tree → Tree → List Term → Type 0
+IsBounded ds cs game query s =
+    (i : Interpretation) → Satisfies ds i → (a : Adversary)
+    → HasTapes (value_of ds i cs query a s) × AtMost (advantage (setting_of ds i) query a game) (value_of ds i cs query a s)
 
 module _ (ds : List Declaration) (own : ℕ) (first : Tree) (w : IsFileOf ds own first) (closed : HasClosedQueries ds) (asked : AreAsked first (queries_in ds))
     (values : HaveValues ds first) (taped : HaveTapedContexts ds own)
@@ -212,40 +219,27 @@ module _ (ds : List Declaration) (own : ℕ) (first : Tree) (w : IsFileOf ds own
       let accepted = (decided sc query c.closing.certificate (asked_query first query may)).1 none in
       by_kind ts last p (suc j) s c (linked ts last p (suc j) s c) query (contains_at (queries_in ds) j query q) may (closed_at (IsClosedQuery ds) (queries_in ds) closed j query q) c.closing.certificate refl accepted
 
--- the verdicts of a report that took steps
+-- the verdicts along a course of a file that was read
 
 module _ (holds : (ds : List Declaration) → DerivationsHold ds) (unreached : (ds : List Declaration) → DerivedBodiesAreUnreached ds)
     (costs : AreWithinCosts) (numbers : AreNumbers) (for_many : AreSecretOfMany) (for_one : AreSecretOnce) (decided : AreDecided)
     (c : Content) (f : File) (r : Report) (source : Given) (reads : read_of most_pool source ≡ Ok c) (few : length source.bytes ≤ most_bytes) where
-  -- what its steps prove, with the contexts of the steps that were taken
-  abbrev along : (r : Report) (f : File) → TakesSteps r f → Contexts
-  along r f w = contexts_along (declared_in r) r.work.decls.own 1 (game_in r f) w.proof
-
-  sound_here : read_of most_pool source ≡ Ok (file_in r f (length c.names)) → (w : TakesSteps r f) → IsSoundFor (file_in r f (length c.names)) (along r f w) r.verdicts.items
-  sound_here here w j query s q v =
+  closed_along : read_of most_pool source ≡ Ok (file_in r f (length c.names)) → (course : Course) → Leads r f course → r.verdicts.items ≡ verdicts_of course.proof (queries_in (declared_in r)) → HoldsAlong r f course
+  closed_along here course leads verdicts j query s q v i sat a =
       let d : Content = file_in r f (length c.names) in
-      let w_file = file_of source d here holds unreached few in
+      let w = file_of source d here holds unreached few in
       let p = file source d here in
       let signs = (signs_of p.tokens).signs in
       let said = says_is_said most_pool signs p.said p.says in
       let closed = subst (λ (x : Content). HasClosedQueries x.declarations) (sym p.content) (queries_closed most_pool signs p.said said p.typed) in
       let number : 1 + j ≡ suc j = omega arith in
-      let sum = sym (ap (sum_of w.proof) number) ∙ verdict_at (sum_of w.proof) 1 (queries_in d.declarations) j s (ap (λ vs. slice_get vs j) (sym w.verdicts) ∙ v) in
-      closed_holds d.declarations d.own d.game w_file closed (accepted most_pool source d here).asked (valued_file source d here w_file.ready) (taped source d here) costs numbers for_many for_one decided w.proof w.last w.leads j query s q sum
+      let sum = sym (ap (sum_of course.proof) number) ∙ verdict_at (sum_of course.proof) 1 (queries_in d.declarations) j s (ap (λ vs. slice_get vs j) (sym verdicts) ∙ v) in
+      let b = closed_holds d.declarations d.own d.game w closed (accepted most_pool source d here).asked (valued_file source d here w.ready) (taped source d here) costs numbers for_many for_one decided course.proof course.last leads j query s q sum i sat a in
+      (advantages_of_file holds unreached d source here few j query q i sat a, b.0, b.1)
 
-  sound_taken : r.file ≡ Some f → file_in r f (length c.names) ≡ c → (w : TakesSteps r f) → IsSoundFor c (contexts_in r) r.verdicts.items
-  sound_taken there same w =
-      subst (λ (d : Content). IsSoundFor d (contexts_in r) r.verdicts.items) same
-      (subst (λ cs. IsSoundFor (file_in r f (length c.names)) cs r.verdicts.items) (sym (contexts_taken r f w there)) (sound_here (reads ∙ ap Ok (sym same)) w))
+  holds_along : file_in r f (length c.names) ≡ c → (course : Course) → Leads r f course → HasVerdicts r course → HoldsAlong r f course
+  holds_along held course leads (strategy.all v) = closed_along (reads ∙ ap Ok (sym held)) course leads v
+  holds_along held course leads (strategy.none m v) = λ j query s q e. absurd (let x = sym (ap (λ vs. slice_get vs j) v) ∙ e in cc)
 
-  -- so the verdicts hold, whatever they come of
-
-  without_sound : (games : Bool) → r.file ≡ Some f → file_in r f (length c.names) ≡ c → ProceedsWithout games r f → IsSoundFor c (contexts_in r) r.verdicts.items
-  without_sound true there same w =
-      subst (λ (d : Content). IsSoundFor d (contexts_in r) r.verdicts.items) same
-      (λ k query s q v. absurd (none_proved (queries_in (declared_in r)) k s (ap (λ vs. slice_get vs k) (sym w.verdicts) ∙ v)))
-  without_sound false there same w = sound_taken there same w.took
-
-  pub report_sound : (o : Option (List Tree)) → steps_in r ≡ o → r.file ≡ Some f → file_in r f (length c.names) ≡ c → Proceeds r f o → IsSoundFor c (contexts_in r) r.verdicts.items
-  report_sound None e there same w = without_sound (is_games r.command) there same w
-  report_sound (Some steps) e there same w = sound_taken there same w.took
+  pub report_sound : (course : Course) → HasRun c f r course → IsSound r
+  report_sound course h = subst (λ (o : Option File). IfSome o (λ g. (k : Course) → TakesSteps r g k → HoldsAlong r g k)) (sym h.file) (λ k w. holds_along h.content k w.leads w.verdicts)

@@ -1,21 +1,18 @@
--- Each step of a report is close by itself: it is a link behind a chain, and its advantage is that of its context.
+-- Each step of a course is close by itself: it is a link behind a chain, and its advantage is that of its context.
 use Rattle.std.proofs.Common.{◌≡◌, ℕ, zero, suc, ◌≤◌, List, [], ◌∷◌, ◌++◌, length, map, drop, take, refl, ap, sym, ◌∙◌, subst, arith, mul-pos, Option, Some, None, Ok, inl, inr}
 use Rattle.std.specs.Prelude.{IfSome, MatchOption, option_map, slice_get}
-use Rattle.cv_pool.specs.KindTree.{KindTree}
 use Rattle.cv_syntax.specs.declared.work.File.{File}
-use Rattle.cv_syntax.specs.declared.work.Game.{Game}
 use Rattle.cv_syntax_trees.specs.Declarations.{Declaration}
 use Rattle.cv_syntax_trees.specs.Tree.{Tree}
-use Rattle.cv_syntax.specs.PoolTrees.{tree_at}
 use Rattle.cv_library.specs.Givens.{Given}
 use Rattle.cv_accept.specs.Accepted.{Content, read_of, most_bytes}
 use Rattle.cv_sequences.proofs.files.Ready.{file_of, taped, valued}
 use Rattle.cv_derive_laws.specs.stores.Soundness.{DerivationsHold, DerivedBodiesAreUnreached}
 use Rattle.cv_steps.proofs.values.Adding.{factor_positive}
-use Rattle.cv_follow.specs.Scripts.{Told, entry_in, entry_of, known_to}
-use Rattle.cv_follow.proofs.StepKinds.{kind_of}
-use Rattle.cv_kernel.specs.Closings.{Closing, closing_in}
-use Rattle.cv_kernel.specs.Proofs.{IsProof, IsTransition, Transition, closed_by, game_behind}
+use Rattle.cv_kernel.specs.Followed.{known_to}
+use Rattle.cv_kernel.proofs.StepKinds.{kind_of}
+use Rattle.cv_kernel.specs.Closings.{closing_in}
+use Rattle.cv_kernel.specs.Proofs.{IsProof, IsTransition, Transition, closed_by}
 use Rattle.cv_meaning.specs.Advantage.{chance_of}
 use Rattle.cv_meaning.specs.Chances.{Chance}
 use Rattle.cv_meaning.specs.Experiments.{Experiment, mode_of}
@@ -27,7 +24,6 @@ use Rattle.cv_meaning_chances.specs.values.Values.{HasValuesIn}
 use Rattle.cv_meaning.specs.contexts.ContextAdvantage.{context_chance}
 use Rattle.cv_meaning.specs.contexts.Groups.{Left, Right}
 use Rattle.cv_accept.specs.Accepted.{most_pool}
-use Rattle.cv_report.specs.declared.report.Entry.{Entry}
 use Rattle.cv_report.specs.declared.report.Report.{Report}
 use Rattle.cv_scene.specs.Reductions.{context_of_game}
 use Rattle.cv_scene.specs.Scenes.{Scene}
@@ -40,14 +36,13 @@ use Rattle.cv_sequences.proofs.costs.Costs.{cost_worth}
 use Rattle.cv_steps.specs.Steps.{Collisions, Zero}
 use Rattle.cv_steps_laws.specs.crypto.Steps.{reduction_of}
 use Rattle.cv_steps_laws.proofs.crypto.Accepted.{accepted}
-use Rattle.cv.specs.Contexts.{contexts_in}
-use Rattle.cv.specs.Runs.{Runs}
-use Rattle.cv.specs.Steps.{AreEqual, AreOfCost, HasCloseSteps, IsCloseStep, game_along}
-use Rattle.cv.proofs.Commands.{Taken, taken}
-use Rattle.cv.specs.Strategy.{TakesSteps, declared_in, file_in, game_in, steps_in}
+use Rattle.cv.specs.Contexts.{contexts_along, contexts_of}
+use Rattle.cv.specs.Runs.{HasRun}
+use Rattle.cv.specs.Steps.{AreCloseSteps, AreEqual, AreOfCost, HasCloseSteps, IsCloseStep}
+use Rattle.cv_follow.specs.Courses.{Course}
+use Rattle.cv.specs.Strategy.{Leads, declared_in, file_in, game_in}
 use Rattle.cv.specs.Values.{Contexts, advantage_of, advantages_in}
-use Rattle.cv.proofs.Faithful.{HasContext, along_is, context_numbered, contexts_along, game_kept, link_of, links_of, matched, next_tree, price_of, same_game, contexts_taken, stands_in}
-use Rattle.cv.proofs.Faithful as faithful
+use Rattle.cv.proofs.Faithful.{HasContext, along_is, context_numbered, link_of, links_of, price_of, stands_in}
 use Rattle.cv.proofs.Taped.{HaveTapedContexts, HaveValues}
 
 -- what stands at a place stands between what is before and behind it
@@ -55,28 +50,6 @@ pub split_at : (ts : List Transition) (k : ℕ) (t : Transition) → slice_get t
 split_at [] k t e = absurd (cc)
 split_at (u ∷ ts) zero t e = let f : u ≡ t = cc in ap (λ x. x ∷ ts) (sym f)
 split_at (u ∷ ts) (suc k) t e = ap (λ xs. u ∷ xs) (split_at ts k t e)
-
--- a step with a game of its own closes no query
-
-none_closed : (c : Option Closing) (t g : Tree) → game_behind c t ≡ Some g → c ≡ None
-none_closed None t g e = refl
-none_closed (Some d) t g e = absurd (cc)
-
-no_closing : (trees : List KindTree) (e : Entry) (t : Transition) (g : Game) → entry_in trees e ≡ entry_of t → e.next ≡ Some g → closing_in t.step ≡ None
-no_closing trees e t g m n =
-    none_closed (closing_in t.step) t.next (tree_at trees (Some g.root))
-    (sym (ap (λ (y : Told). y.3) m) ∙ ap (option_map (λ h. tree_at trees (Some h.root))) n)
-
--- entries lead to the games of their transitions
-same_along : (trees : List KindTree) (game : Tree) (es : List Entry) (ts : List Transition) (n : ℕ) → map (entry_in trees) es ≡ map entry_of ts → game_along trees game (take n es) ≡ faithful.game_along game (take n ts)
-same_along trees game es ts zero m = refl
-same_along trees game [] [] (suc n) m = refl
-same_along trees game [] (t ∷ ts) (suc n) m = absurd (cc)
-same_along trees game (e ∷ es) [] (suc n) m = absurd (cc)
-same_along trees game (e ∷ es) (t ∷ ts) (suc n) m =
-    let f : entry_in trees e ≡ entry_of t = cc in
-    let to = same_game trees game t.next e.next (closing_in t.step) (ap (λ (y : Told). y.3) f) in
-    ap (λ g. game_along trees g (take n es)) to ∙ same_along trees (game_kept game (closing_in t.step) t.next) es ts n (cc)
 
 module _ (ds : List Declaration) (own : ℕ) (first : Tree) (w : IsFileOf ds own first) (values : HaveValues ds first) (taped : HaveTapedContexts ds own) where
   abbrev at : Tree → Scene
@@ -119,17 +92,12 @@ module _ (ds : List Declaration) (own : ℕ) (first : Tree) (w : IsFileOf ds own
       (subst (λ cost. AreOfCost ds i cs x a cost (chance_of (setting_of ds i) x a game) (chance_of (setting_of ds i) x a (next_behind k.link))) (sym k.costs)
       (of_cost cs i sat x a game k.link k.context k.leads (valued_along ds own first w i sat x q v h.links game h.chain) (link_close ds own first w i sat x q v a h.links game h.chain k.link k.leads)))
 
--- the steps of a report
+-- the steps of a course of a file that was read
 
 abbrev HasStepsFrom : List Declaration → (own : ℕ) → Tree → Type 0
 HasStepsFrom ds own first =
     (before : List Transition) (game : Tree) → IsProof ds (known_to own) first before game → (t : Transition) (rest : List Transition) → closing_in t.step ≡ None → IsTransition ds (known_to own) (suc (length before)) (closed_by before) game t
     → IsCloseStep ds (contexts_along ds own 1 first (before ++ t ∷ rest)) game t.next t.cost
-
-abbrev AreCloseSteps : Report → File → Type 0
-AreCloseSteps r f =
-    (k : ℕ) (e : Entry) (g : Game) → slice_get r.trail.items k ≡ Some e → e.next ≡ Some g
-    → IsCloseStep (declared_in r) (contexts_in r) (game_along r.work.pool.trees (game_in r f) (take k r.trail.items)) (tree_at r.work.pool.trees (Some g.root)) e.cost
 
 module _ (holds : (ds : List Declaration) → DerivationsHold ds) (unreached : (ds : List Declaration) → DerivedBodiesAreUnreached ds) (c : Content) (f : File) (r : Report) (source : Given) (reads : read_of most_pool source ≡ Ok c) (few : length source.bytes ≤ most_bytes) where
   content_steps : HasStepsFrom c.declarations c.own c.game
@@ -137,30 +105,17 @@ module _ (holds : (ds : List Declaration) → DerivationsHold ds) (unreached : (
       let w = file_of source c reads holds unreached few in
       close_step c.declarations c.own c.game w (valued source c reads w.ready) (taped source c reads)
 
-  steps_step : r.file ≡ Some f → file_in r f (length c.names) ≡ c → TakesSteps r f → AreCloseSteps r f
-  steps_step there held w k e g h n =
-      let trees = r.work.pool.trees in
+  steps_step : file_in r f (length c.names) ≡ c → (course : Course) → Leads r f course → AreCloseSteps r f course
+  steps_step held course p k t at n =
       let ds = declared_in r in
       let own = r.work.decls.own in
       let first = game_in r f in
-      let ts = w.proof in
-      let m = matched trees r.trail.items ts k e w.trail h in
-      let t = m.0 in
-      let s = stands_in ds (known_to own) first ts w.last w.leads k t m.1 in
+      let ts = course.proof in
+      let s = stands_in ds (known_to own) first ts course.last p k t at in
       let here = subst (λ (d : Content). HasStepsFrom d.declarations d.own d.game) (sym held) content_steps in
-      let alone = here (take k ts) s.game s.before t (drop (suc k) ts) (no_closing trees e t g m.2 n) s.here in
-      let among = subst (λ us. IsCloseStep ds (contexts_along ds own 1 first us) s.game t.next t.cost) (split_at ts k t m.1) alone in
-      let in_report = subst (λ cs. IsCloseStep ds cs s.game t.next t.cost) (sym (contexts_taken r f w there)) among in
-      let led = same_along trees first r.trail.items ts k w.trail ∙ along_is ds own first (take k ts) s.game s.before in
-      let game = game_along trees first (take k r.trail.items) in
-      subst (IsCloseStep ds (contexts_in r) game (tree_at trees (Some g.root))) (sym (ap (λ (y : Told). y.1) m.2))
-      (subst (λ next. IsCloseStep ds (contexts_in r) game next t.cost) (next_tree trees e t g m.2 n)
-      (subst (λ before. IsCloseStep ds (contexts_in r) before t.next t.cost) (sym led) in_report))
+      let alone = here (take k ts) s.game s.before t (drop (suc k) ts) n s.here in
+      let among = subst (λ us. IsCloseStep ds (contexts_along ds own 1 first us) s.game t.next t.cost) (split_at ts k t at) alone in
+      subst (λ game. IsCloseStep ds (contexts_of r f course) game t.next t.cost) (sym (along_is ds own first (take k ts) s.game s.before)) among
 
-  by_report : Taken r f → r.file ≡ Some f → file_in r f (length c.names) ≡ c → AreCloseSteps r f
-  by_report (inl n) there held k e g h m = absurd (let x = sym (ap (λ es. slice_get es k) n) ∙ h in cc)
-  by_report (inr w) there held k e g h m = steps_step there held w k e g h m
-
-  pub run_steps : Runs c f r → HasCloseSteps r
-  run_steps (inl s) = subst (λ (o : Option File). IfSome o (AreCloseSteps r)) (sym s.file) tt
-  run_steps (inr h) = subst (λ (o : Option File). IfSome o (AreCloseSteps r)) (sym h.file) (by_report (taken r f (steps_in r) h.proceeds) h.file h.content)
+  pub run_steps : (course : Course) → HasRun c f r course → HasCloseSteps r
+  run_steps course h = subst (λ (o : Option File). IfSome o (λ g. (k : Course) → Leads r g k → AreCloseSteps r g k)) (sym h.file) (steps_step h.content)

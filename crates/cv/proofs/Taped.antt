@@ -10,7 +10,7 @@ use Rattle.cv_accept.proofs.Readings.{accepted}
 use Rattle.cv_sequences.proofs.files.Ready.{file_of, valued}
 use Rattle.cv_steps.specs.values.Values.{Advantages}
 use Rattle.cv_derive_laws.specs.stores.Soundness.{DerivationsHold, DerivedBodiesAreUnreached}
-use Rattle.cv_follow.specs.Scripts.{known_to}
+use Rattle.cv_kernel.specs.Followed.{known_to}
 use Rattle.cv_match_laws.specs.answers.Answers.{file_scene}
 use Rattle.cv_meaning.specs.Advantage.{IsAsked, advantage}
 use Rattle.cv_meaning.specs.Experiments.{Breaks, Experiment, Guesses, mode_of}

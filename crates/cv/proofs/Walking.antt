@@ -19,10 +19,11 @@ use Rattle.cv_steps.specs.Judgements as judgement
 use Rattle.cv_steps_laws.specs.crypto.Conditions.{equivalence_of, failure_of}
 use Rattle.cv_steps_laws.specs.crypto.Steps.{IsOutcome, IsOutcomeBy, is_next, outcome_with}
 use Rattle.cv_steps_laws.specs.crypto.Steps as outcome
-use Rattle.cv_follow.specs.Scripts.{LacksRoomFor, Stops, most_steps, no_room, refused, too_deep, too_large, too_many}
+use Rattle.cv_kernel.specs.Followed.{LacksRoomFor}
+use Rattle.cv_follow.specs.Scripts.{Stops, most_steps, no_room, refused, too_deep, too_large, too_many}
 use Rattle.cv.specs.Strategy.{GoesOn, IsAcceptance, context_needs}
-use Rattle.cv_follow.proofs.StepKinds.{IsJudged, Kind, kind_of}
-use Rattle.cv_follow.proofs.StepKinds as kind
+use Rattle.cv_kernel.proofs.StepKinds.{IsJudged, Kind, kind_of}
+use Rattle.cv_kernel.proofs.StepKinds as kind
 
 -- a run never stops at a step that is accepted, with room for it
 
@@ -78,9 +79,9 @@ module _ (taken count : ℕ) (s : Scene) (ks : List ℕ) (step : Tree) (g : Goes
               omega arith
         ]
 
-  room : (need : ℕ) → Kind (items_of_step step) → LacksRoomFor taken s ks step (items_of_step step) need → ⊥
-  room need (kind.judged k v) h = room_judged k need (judgement_in s ks step) refl (k.lacks taken s ks step need h)
-  room need (kind.reduces e x same) h = room_reduced e x same need (subst (λ i. LacksRoomFor taken s ks step i need) same h)
+  room : (need : ℕ) → Kind (items_of_step step) → LacksRoomFor most_pool taken s ks step (items_of_step step) need → ⊥
+  room need (kind.judged k v) h = room_judged k need (judgement_in s ks step) refl (k.lacks most_pool taken s ks step need h)
+  room need (kind.reduces e x same) h = room_reduced e x same need (subst (λ i. LacksRoomFor most_pool taken s ks step i need) same h)
 
   pub never_stops : suc count ≤ most_steps → (end : Status) → Stops taken count s ks step end → ⊥
   never_stops few _ (too_many k) = omega arith

@@ -15,7 +15,7 @@ use Rattle.cv_parse_tables.specs.terminals.Signs.{signs_of}
 use Rattle.cv_script_laws.specs.forms.Scripts.{IsSomeScript}
 use Rattle.cv_parse_notation.specs.Whole.{Dead}
 use Rattle.cv_script.specs.declared.reader.error.ScriptError.TheVariants as block
-use Rattle.cv_kernel.specs.Proofs.{IsProof, Transition, closed_by, nodes_along}
+use Rattle.cv_kernel.specs.Proofs.{closed_by, nodes_along}
 use Rattle.cv_parse_notation.specs.declared.sign.Sign.{Sign}
 use Rattle.cv_parse_grammar.specs.Names as names
 use Rattle.cv_parse_grammar.specs.depth.Files.{IsDeadAtEveryDepth, IsNestedTooDeep}
@@ -49,10 +49,12 @@ use Rattle.cv_report.specs.declared.report.Status.TheVariants as status
 use Rattle.cv_report.specs.declared.report.Which.TheVariants.{Depth, Nodes, Pool, Tokens, File as FileLimit}
 use Rattle.cv_report.specs.declared.report.Which.{Which}
 use Rattle.cv_steps.specs.Sequences.{scene}
-use Rattle.cv_follow.specs.Scripts.{Stops, first_open, is_proved, known_to}
+use Rattle.cv_follow.specs.Scripts.{Stops, first_open, is_proved}
+use Rattle.cv_kernel.specs.Followed.{known_to}
 use Rattle.cv_follow.specs.Fillings.{StandsFor}
 use Rattle.cv_follow.specs.Searches.{AreMoves, Passes}
-use Rattle.cv.specs.Strategy.{declared_in, game_in, moves_in, nodes_in, steps_in}
+use Rattle.cv_follow.specs.Courses.{Course}
+use Rattle.cv.specs.Strategy.{Leads, declared_in, game_in, moves_in, nodes_in, steps_in}
 use Rattle.cv.specs.Words.{IsLong, source_asked, text_asked}
 
 -- The source has tokens, and of those that are read this holds: the same ones, or those of the file for which they stand.
@@ -129,67 +131,47 @@ pub record HasQueryFault (tokens : List Token) (k : ℕ) : Type 0 where
   pub first : IsFirstRefused said.game (queries_in said.declarations) k
 
 -- Without a proof block steps were found, each accepted in turn, of which so many were counted as moves, and a query is open.
-pub record LeavesOpen (r : Report) (f : File) (made : ℕ) : Type 0 where
+pub record LeavesOpen (r : Report) (f : File) (c : Course) (made : ℕ) : Type 0 where
   pub plain : r.script ≡ None
-  pub proof : List Transition
-  pub last : Tree
-  pub leads : IsProof (declared_in r) (known_to r.work.decls.own) (game_in r f) proof last
-  pub count : length r.steps.items ≡ length proof
-  pub unclosed : IsSome (first_open (closed_by proof) 1 (queries_in (declared_in r)))
-  pub counted : AreMoves (map (λ t. t.step) proof) made
+  pub leads : Leads r f c
+  pub unclosed : IsSome (first_open (closed_by c.proof) 1 (queries_in (declared_in r)))
+  pub counted : AreMoves (map (λ t. t.step) c.proof) made
 
 -- Without a proof block steps were found, each accepted in turn, and this limit is passed behind them: by the step that was proposed next,
 -- or by the room that it asked for.
-pub record PassesLimit (r : Report) (f : File) (which : Which) : Type 0 where
+pub record PassesLimit (r : Report) (f : File) (c : Course) (which : Which) : Type 0 where
   pub plain : r.script ≡ None
-  pub proof : List Transition
-  pub last : Tree
-  pub leads : IsProof (declared_in r) (known_to r.work.decls.own) (game_in r f) proof last
-  pub count : length r.steps.items ≡ length proof
-  pub passes : Passes (length r.work.pool.trees) (length proof) (scene (declared_in r) (known_to r.work.decls.own) last) (closed_by proof) which
+  pub leads : Leads r f c
+  pub passes : Passes (length r.work.pool.trees) (length c.proof) (scene (declared_in r) (known_to r.work.decls.own) c.last) (closed_by c.proof) which
 
--- The steps of a report are the front of the proof block of its file, with those that were found in the place of the word, each accepted in
+-- The steps of a course are the front of the proof block of its file, with those that were found in the place of the word, each accepted in
 -- turn; the next one stops the run so.
-pub record HasStop (r : Report) (f : File) (s : Status) : Type 0 where
+pub record HasStop (r : Report) (f : File) (c : Course) (s : Status) : Type 0 where
   pub block : List Tree
   pub there : steps_in r ≡ Some block
   pub steps : List Tree
   pub room : ℕ
   pub stands : StandsFor (nodes_in r f) block steps room
-  pub proof : List Transition
   pub next : Tree
   pub left : List Tree
-  pub split : steps ≡ map (λ t. t.step) proof ++ next ∷ left
-  pub last : Tree
-  pub leads : IsProof (declared_in r) (known_to r.work.decls.own) (game_in r f) proof last
-  pub count : length r.steps.items ≡ length proof
-  pub stops : Stops (room + nodes_along (declared_in r) (known_to r.work.decls.own) (game_in r f) proof) (length proof) (scene (declared_in r) (known_to r.work.decls.own) last) (closed_by proof) next s
+  pub split : steps ≡ map (λ t. t.step) c.proof ++ next ∷ left
+  pub leads : Leads r f c
+  pub stops : Stops (room + nodes_along (declared_in r) (known_to r.work.decls.own) (game_in r f) c.proof) (length c.proof) (scene (declared_in r) (known_to r.work.decls.own) c.last) (closed_by c.proof) next s
 
--- All steps of the proof block, and those that were found in the place of the word, are accepted in turn, and this is the first query that
--- none of them closes.
-pub record HasOpenQuery (r : Report) (f : File) (q : ℕ) : Type 0 where
+-- The steps of a course are those of the proof block, with those that were found in the place of the word, all of them.
+pub record HasAllSteps (r : Report) (f : File) (c : Course) : Type 0 where
   pub block : List Tree
   pub there : steps_in r ≡ Some block
   pub steps : List Tree
   pub room : ℕ
   pub stands : StandsFor (nodes_in r f) block steps room
-  pub proof : List Transition
-  pub all : steps ≡ map (λ t. t.step) proof
-  pub last : Tree
-  pub leads : IsProof (declared_in r) (known_to r.work.decls.own) (game_in r f) proof last
-  pub first : first_open (closed_by proof) 1 (queries_in (declared_in r)) ≡ Some q
+  pub all : steps ≡ map (λ t. t.step) c.proof
+  pub leads : Leads r f c
 
--- All steps of the proof block, and those that were found in the place of the word, are accepted in turn.
-pub record HasAllSteps (r : Report) (f : File) : Type 0 where
-  pub block : List Tree
-  pub there : steps_in r ≡ Some block
-  pub steps : List Tree
-  pub room : ℕ
-  pub stands : StandsFor (nodes_in r f) block steps room
-  pub proof : List Transition
-  pub all : steps ≡ map (λ t. t.step) proof
-  pub last : Tree
-  pub leads : IsProof (declared_in r) (known_to r.work.decls.own) (game_in r f) proof last
+-- So it is, and this is the first query that none of them closes.
+pub record HasOpenQuery (r : Report) (f : File) (c : Course) (q : ℕ) : Type 0 where
+  pub steps : HasAllSteps r f c
+  pub first : first_open (closed_by c.proof) 1 (queries_in (declared_in r)) ≡ Some q
 
 -- what is known of the outside: what the words ask for, the told source that this reads, and the faults of the shelf, before and after
 pub record Outside : Type 0 where
@@ -220,35 +202,35 @@ OfSignsAt o token Holds = OfToldAt o token (λ tokens place. Holds (signs_of tok
 -- The table of causes: what each answer comes from. What is said of a source is said of a told one. All tokens are those that
 -- are read: of the expanded file, or, where this is an oracle file, of the file for which it stands; their numbers are told in the expanded
 -- file.
-pub data ComesFrom (o : Outside) (r : Report) : Status → Type 0 where
-  all_proved : list_all is_proved r.verdicts.items ≡ true → ComesFrom o r status.Proved
-  stuck : {made : ℕ} → made < moves_in r.command → IsSomeAnd r.file (λ f. LeavesOpen r f made) → ComesFrom o r (status.Open Stuck)
-  moves : IsSomeAnd r.file (λ f. LeavesOpen r f (moves_in r.command)) → ComesFrom o r (status.Open Moves)
-  passes : {which : Which} → IsSomeAnd r.file (λ f. PassesLimit r f which) → ComesFrom o r (status.Limit which)
-  stops : {s : Status} → IsSomeAnd r.file (λ f. HasStop r f s) → ComesFrom o r s
-  no_close : {q : ℕ} → IsSomeAnd r.file (λ f. HasOpenQuery r f q) → ComesFrom o r (status.Open (NoClose q))
-  done : r.command ≡ command.Games → IsSomeAnd r.file (λ f. HasAllSteps r f) → ComesFrom o r status.Done
-  shown : r.command ≡ command.Games → r.script ≡ None → ComesFrom o r status.Done
-  sampled : IsSome (option_and_then text_asked o.asked) → ComesFrom o r status.Done
-  words : IsNone o.asked → ComesFrom o r status.Words
-  read : Rose o.before o.after → ComesFrom o r status.Read
-  long : IfSome o.told IsLong → ComesFrom o r (status.Limit FileLimit)
-  no_tokens : {e : LexError} → IfSome o.told (λ source. tokens_of source.bytes ≡ Err e) → ComesFrom o r (status.FileRefused (Lex e))
-  library_without_tokens : {e : LexError} → IfSome o.told (λ source. tokens_given source ≡ Err (given.LibraryLex e)) → ComesFrom o r (status.FileRefused (LibraryLex e))
-  no_library : {e : LibraryError} → IfSome o.told (λ source. tokens_given source ≡ Err (given.Library e)) → ComesFrom o r (status.FileRefused (Library e))
-  not_expanded : {e : ExpandError} → IfSome o.told (λ source. tokens_given source ≡ Err (given.Expand e)) → ComesFrom o r (status.FileRefused (Expand e))
-  tokens : {count : ℕ} → IfSome o.told (λ source. tokens_given source ≡ Err (given.Tokens count)) → ComesFrom o r (status.Limit (Tokens count))
-  syntax : {token : ℕ} → OfSignsAt o token (λ signs place. IsDeadAtEveryDepth signs place) → ComesFrom o r (status.FileRefused (Parse (Syntax token)))
-  nesting : {token : ℕ} → OfSignsAt o token (λ signs place. IsNestedTooDeep signs place) → ComesFrom o r (status.FileRefused (Parse (Nesting token)))
-  name_twice : {token : ℕ} → OfSignsAt o token (λ signs place. IsMisnamedAt signs names.NameTwice place) → ComesFrom o r (status.FileRefused (Parse (NameTwice token)))
-  name_unknown : {token : ℕ} → OfSignsAt o token (λ signs place. IsMisnamedAt signs names.NameUnknown place) → ComesFrom o r (status.FileRefused (Parse (NameUnknown token)))
-  script : {token : ℕ} → OfToldAt o token (λ tokens place. HasNoScript tokens place) → ComesFrom o r (status.FileRefused (Script token))
-  types : {e : TypeFault} → OfTold o (λ tokens. HasTypeFault tokens e) → ComesFrom o r (status.FileRefused (Types e))
-  scope : {e : ScopeFault} → OfTold o (λ tokens. HasScopeFault tokens e) → ComesFrom o r (status.FileRefused (Scope e))
-  group : {k : ℕ} {e : GroupFault} → OfTold o (λ tokens. HasGroupFault tokens k e) → ComesFrom o r (status.FileRefused (Group k e))
-  query : {k : ℕ} → OfTold o (λ tokens. HasQueryFault tokens k) → ComesFrom o r (status.FileRefused (Query k))
-  nodes : {count : ℕ} → OfSigns o (λ signs. IsLarge signs (HasNodes count)) → ComesFrom o r (status.Limit (Nodes count))
-  deep : {depth : ℕ} → OfSigns o (λ signs. IsLarge signs (HasDepth depth)) → ComesFrom o r (status.Limit (Depth depth))
-  pool : {need : ℕ} → IsNone r.file → most_pool < need → OfSigns o (λ signs. IsLarge signs (HasWeight most_pool need)) → ComesFrom o r (status.Limit (Pool need))
-  script_room : {need : ℕ} → IsNone r.file → IfSome o.told (λ source. IsFull most_pool source need) → ComesFrom o r (status.Limit (Pool need))
-  memory : ComesFrom o r status.Memory
+pub data ComesFrom (o : Outside) (r : Report) (c : Course) : Status → Type 0 where
+  all_proved : list_all is_proved r.verdicts.items ≡ true → ComesFrom o r c status.Proved
+  stuck : {made : ℕ} → made < moves_in r.command → IsSomeAnd r.file (λ f. LeavesOpen r f c made) → ComesFrom o r c (status.Open Stuck)
+  moves : IsSomeAnd r.file (λ f. LeavesOpen r f c (moves_in r.command)) → ComesFrom o r c (status.Open Moves)
+  passes : {which : Which} → IsSomeAnd r.file (λ f. PassesLimit r f c which) → ComesFrom o r c (status.Limit which)
+  stops : {s : Status} → IsSomeAnd r.file (λ f. HasStop r f c s) → ComesFrom o r c s
+  no_close : {q : ℕ} → IsSomeAnd r.file (λ f. HasOpenQuery r f c q) → ComesFrom o r c (status.Open (NoClose q))
+  done : r.command ≡ command.Games → IsSomeAnd r.file (λ f. HasAllSteps r f c) → ComesFrom o r c status.Done
+  shown : r.command ≡ command.Games → r.script ≡ None → ComesFrom o r c status.Done
+  sampled : IsSome (option_and_then text_asked o.asked) → ComesFrom o r c status.Done
+  words : IsNone o.asked → ComesFrom o r c status.Words
+  read : Rose o.before o.after → ComesFrom o r c status.Read
+  long : IfSome o.told IsLong → ComesFrom o r c (status.Limit FileLimit)
+  no_tokens : {e : LexError} → IfSome o.told (λ source. tokens_of source.bytes ≡ Err e) → ComesFrom o r c (status.FileRefused (Lex e))
+  library_without_tokens : {e : LexError} → IfSome o.told (λ source. tokens_given source ≡ Err (given.LibraryLex e)) → ComesFrom o r c (status.FileRefused (LibraryLex e))
+  no_library : {e : LibraryError} → IfSome o.told (λ source. tokens_given source ≡ Err (given.Library e)) → ComesFrom o r c (status.FileRefused (Library e))
+  not_expanded : {e : ExpandError} → IfSome o.told (λ source. tokens_given source ≡ Err (given.Expand e)) → ComesFrom o r c (status.FileRefused (Expand e))
+  tokens : {count : ℕ} → IfSome o.told (λ source. tokens_given source ≡ Err (given.Tokens count)) → ComesFrom o r c (status.Limit (Tokens count))
+  syntax : {token : ℕ} → OfSignsAt o token (λ signs place. IsDeadAtEveryDepth signs place) → ComesFrom o r c (status.FileRefused (Parse (Syntax token)))
+  nesting : {token : ℕ} → OfSignsAt o token (λ signs place. IsNestedTooDeep signs place) → ComesFrom o r c (status.FileRefused (Parse (Nesting token)))
+  name_twice : {token : ℕ} → OfSignsAt o token (λ signs place. IsMisnamedAt signs names.NameTwice place) → ComesFrom o r c (status.FileRefused (Parse (NameTwice token)))
+  name_unknown : {token : ℕ} → OfSignsAt o token (λ signs place. IsMisnamedAt signs names.NameUnknown place) → ComesFrom o r c (status.FileRefused (Parse (NameUnknown token)))
+  script : {token : ℕ} → OfToldAt o token (λ tokens place. HasNoScript tokens place) → ComesFrom o r c (status.FileRefused (Script token))
+  types : {e : TypeFault} → OfTold o (λ tokens. HasTypeFault tokens e) → ComesFrom o r c (status.FileRefused (Types e))
+  scope : {e : ScopeFault} → OfTold o (λ tokens. HasScopeFault tokens e) → ComesFrom o r c (status.FileRefused (Scope e))
+  group : {k : ℕ} {e : GroupFault} → OfTold o (λ tokens. HasGroupFault tokens k e) → ComesFrom o r c (status.FileRefused (Group k e))
+  query : {k : ℕ} → OfTold o (λ tokens. HasQueryFault tokens k) → ComesFrom o r c (status.FileRefused (Query k))
+  nodes : {count : ℕ} → OfSigns o (λ signs. IsLarge signs (HasNodes count)) → ComesFrom o r c (status.Limit (Nodes count))
+  deep : {depth : ℕ} → OfSigns o (λ signs. IsLarge signs (HasDepth depth)) → ComesFrom o r c (status.Limit (Depth depth))
+  pool : {need : ℕ} → IsNone r.file → most_pool < need → OfSigns o (λ signs. IsLarge signs (HasWeight most_pool need)) → ComesFrom o r c (status.Limit (Pool need))
+  script_room : {need : ℕ} → IsNone r.file → IfSome o.told (λ source. IsFull most_pool source need) → ComesFrom o r c (status.Limit (Pool need))
+  memory : ComesFrom o r c status.Memory

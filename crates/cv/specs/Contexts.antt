@@ -1,10 +1,8 @@
--- The contexts of a report's cryptographic steps, each with the number of its step. A context is a function of the game before the
+-- The contexts of the cryptographic steps of a course, each with the number of its step. A context is a function of the game before the
 -- step, of the equivalence and of the key that the step names; its answers stand above all names that a table may have, and nothing of
 -- it is a choice. Blanchet and Pointcheval, CRYPTO 2006.
 use Rattle.std.specs.Prelude.{ℕ, suc, List, [], ◌∷◌, Option, Some, None, option_map}
-use Rattle.cv_pool.specs.KindTree.{KindTree}
 use Rattle.cv_syntax.specs.declared.work.File.{File}
-use Rattle.cv_syntax.specs.declared.work.Game.{Game}
 use Rattle.cv_syntax_trees.specs.Declarations.{Declaration}
 use Rattle.cv_syntax.specs.Declarations.{declarations}
 use Rattle.cv_syntax_trees.specs.declared.head.Head.TheVariants as head
@@ -15,7 +13,8 @@ use Rattle.cv_scene.specs.Reductions.{context_of_game}
 use Rattle.cv_match_laws.specs.answers.Answers.{file_scene}
 use Rattle.cv_steps_laws.specs.crypto.Conditions.{equivalence_of}
 use Rattle.cv_steps_laws.specs.crypto.Steps.{reduction_of}
-use Rattle.cv_report.specs.declared.report.Entry.{Entry}
+use Rattle.cv_follow.specs.Courses.{Course}
+use Rattle.cv_kernel.specs.Proofs.{Transition}
 use Rattle.cv_report.specs.declared.report.Report.{Report}
 use Rattle.cv.specs.Values.{Contexts}
 
@@ -38,22 +37,16 @@ abbrev pub with_context : (step : ℕ) → Option Context → Contexts → Conte
 with_context step None cs = cs
 with_context step (Some c) cs = (step, c) ∷ cs
 
--- the game behind a step, which may be the same one
-abbrev pub game_behind : List KindTree → (game : Tree) → Option Game → Tree
-game_behind trees game None = game
-game_behind trees game (Some next) = tree_at trees (Some next.root)
+-- the contexts of steps from a game on, numbered from a number on
+abbrev pub contexts_along : List Declaration → (own : ℕ) → (step : ℕ) → (game : Tree) → List Transition → Contexts
+contexts_along ds own step game [] = []
+contexts_along ds own step game (t ∷ ts) = with_context step (context_by ds own game t.step) (contexts_along ds own (suc step) t.next ts)
 
--- those of the steps of a trail from a game on, numbered from a number on
-unfoldable pub contexts_from : List Declaration → (own : ℕ) → List KindTree → (step : ℕ) → (game : Tree) → List Entry → Contexts
-contexts_from ds own trees step game [] = []
-contexts_from ds own trees step game (e ∷ es) =
-    with_context step (context_by ds own game (tree_at trees (Some e.step.0))) (contexts_from ds own trees (suc step) (game_behind trees game e.next) es)
+-- the game that steps lead to
+abbrev pub game_along : (game : Tree) → List Transition → Tree
+game_along game [] = game
+game_along game (t ∷ ts) = game_along t.next ts
 
--- those of a report; its steps are numbered from 1
-abbrev pub contexts_of_file : Report → Option File → Contexts
-contexts_of_file r None = []
-contexts_of_file r (Some f) =
-    contexts_from (declarations r.work.pool.trees r.work.decls.list) r.work.decls.own r.work.pool.trees 1 (tree_at r.work.pool.trees (Some f.game.root)) r.trail.items
-
-abbrev pub contexts_in : Report → Contexts
-contexts_in r = contexts_of_file r r.file
+-- those of a course of a report's file; its steps are numbered from 1
+abbrev pub contexts_of : Report → File → Course → Contexts
+contexts_of r f c = contexts_along (declarations r.work.pool.trees r.work.decls.list) r.work.decls.own 1 (tree_at r.work.pool.trees (Some f.game.root)) c.proof

@@ -11,15 +11,15 @@ use Rattle.cv_meaning.specs.Runs.{Adversary}
 use Rattle.cv_meaning.specs.Satisfies.{Satisfies}
 use Rattle.cv_meaning.specs.Queries.{queries_in}
 use Rattle.cv_meaning_chances.specs.Fractions.{HasTapes}
-use Rattle.cv_report.specs.declared.report.Entry.{Entry}
+use Rattle.cv_follow.specs.Courses.{Course}
+use Rattle.cv_kernel.specs.Proofs.{Transition}
 use Rattle.cv_report.specs.declared.report.Report.{Report}
 use Rattle.cv_sequences.specs.Chains.{summed}
-use Rattle.cv_syntax.specs.declared.work.Game.{Game}
+use Rattle.cv_syntax.specs.declared.work.File.{File}
 use Rattle.cv_syntax_trees.specs.Declarations.{Declaration}
 use Rattle.cv_syntax_trees.specs.Tree.{Tree}
-use Rattle.cv_syntax.specs.PoolTrees.{tree_at}
-use Rattle.cv.specs.Contexts.{contexts_in}
-use Rattle.cv.specs.Strategy.{declared_in, game_in}
+use Rattle.cv.specs.Contexts.{contexts_of}
+use Rattle.cv.specs.Strategy.{Leads, declared_in, game_in}
 use Rattle.cv.specs.Values.{Contexts, advantages_in}
 
 -- Each has tapes, so that it is a number, and the first two differ by at most the third.
@@ -33,8 +33,11 @@ IsWithin ds cs first next sum =
     (i : Interpretation) → Satisfies ds i → (x : Experiment) → IsAsked (queries_in ds) x → (a : Adversary)
     → AreWithin (chance_of (setting_of ds i) x a first) (chance_of (setting_of ds i) x a next) (sum_value i (advantages_in ds i cs x a) sum)
 
--- So it is with the game of the file and that of each entry of the trail, by the costs of the entries through it.
+-- So it is with the game of the file and that of each step of a course, by the costs of the steps through it.
+abbrev pub AreClose : Report → File → Course → Type 0
+AreClose r f c =
+    (k : ℕ) (t : Transition) → slice_get c.proof k ≡ Some t
+    → IsWithin (declared_in r) (contexts_of r f c) (game_in r f) t.next (summed [] (map (λ u. u.cost) (take (k + 1) c.proof)))
+
 abbrev pub HasCloseGames : Report → Type 0
-HasCloseGames r =
-    IfSome r.file (λ f. (k : ℕ) (e : Entry) (g : Game) → slice_get r.trail.items k ≡ Some e → e.next ≡ Some g
-    → IsWithin (declared_in r) (contexts_in r) (game_in r f) (tree_at r.work.pool.trees (Some g.root)) (summed [] (map (λ e. e.cost) (take (k + 1) r.trail.items))))
+HasCloseGames r = IfSome r.file (λ f. (c : Course) → Leads r f c → AreClose r f c)

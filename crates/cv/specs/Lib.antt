@@ -10,4 +10,3 @@ pub mod Steps
 pub mod Strategy
 pub mod Values
 pub mod Words
-pub mod Drawings

@@ -1,6 +1,6 @@
 -- What each step of a report does by itself: its two games differ by at most its own cost, and those of a cryptographic step are its context
 -- with either side. Contexts are those of Blanchet and Pointcheval, CRYPTO 2006.
-use Rattle.std.specs.Prelude.{◌≡◌, ℕ, false, List, [], ◌∷◌, map, take, Some, IfSome, MatchOption, slice_get}
+use Rattle.std.specs.Prelude.{◌≡◌, ℕ, false, List, map, take, None, Some, IfSome, MatchOption, slice_get}
 use Rattle.cv_bound.specs.declared.cost.Collision.{Collision}
 use Rattle.cv_bound.specs.declared.cost.Cost.{Cost}
 use Rattle.cv_bound.specs.declared.cost.Cost.TheVariants.{Advantage, Collisions, Zero}
@@ -15,16 +15,16 @@ use Rattle.cv_meaning.specs.Satisfies.{Satisfies}
 use Rattle.cv_meaning_chances.specs.Fractions.{HasTapes, sum_of}
 use Rattle.cv_meaning.specs.contexts.ContextAdvantage.{context_chance}
 use Rattle.cv_meaning.specs.contexts.Groups.{Left, Right}
-use Rattle.cv_pool.specs.KindTree.{KindTree}
-use Rattle.cv_report.specs.declared.report.Entry.{Entry}
+use Rattle.cv_follow.specs.Courses.{Course}
+use Rattle.cv_kernel.specs.Closings.{closing_in}
+use Rattle.cv_kernel.specs.Proofs.{Transition}
 use Rattle.cv_report.specs.declared.report.Report.{Report}
-use Rattle.cv_syntax.specs.declared.work.Game.{Game}
-use Rattle.cv_syntax.specs.PoolTrees.{tree_at}
+use Rattle.cv_syntax.specs.declared.work.File.{File}
 use Rattle.cv_syntax_trees.specs.Declarations.{Declaration}
 use Rattle.cv_syntax_trees.specs.Tree.{Tree}
-use Rattle.cv.specs.Contexts.{contexts_in, game_behind}
+use Rattle.cv.specs.Contexts.{contexts_of, game_along}
 use Rattle.cv.specs.Games.{AreWithin}
-use Rattle.cv.specs.Strategy.{declared_in, game_in}
+use Rattle.cv.specs.Strategy.{Leads, declared_in, game_in}
 use Rattle.cv.specs.Values.{Contexts, advantages_in, context_of}
 
 -- Each has tapes, so that it is a number, and they are the same.
@@ -52,13 +52,11 @@ IsCloseStep ds cs game next cost =
     (i : Interpretation) → Satisfies ds i → (x : Experiment) → IsAsked (queries_in ds) x → (a : Adversary)
     → AreOfCost ds i cs x a cost (chance_of (setting_of ds i) x a game) (chance_of (setting_of ds i) x a next)
 
--- the game that entries lead to from a game on
-abbrev pub game_along : List KindTree → (game : Tree) → List Entry → Tree
-game_along trees game [] = game
-game_along trees game (e ∷ es) = game_along trees (game_behind trees game e.next) es
+-- So it is with the game of each step of a course and the game that the steps before it lead to.
+abbrev pub AreCloseSteps : Report → File → Course → Type 0
+AreCloseSteps r f c =
+    (k : ℕ) (t : Transition) → slice_get c.proof k ≡ Some t → closing_in t.step ≡ None
+    → IsCloseStep (declared_in r) (contexts_of r f c) (game_along (game_in r f) (take k c.proof)) t.next t.cost
 
--- So it is with the game of each entry of the trail and the game that the entries before it lead to.
 abbrev pub HasCloseSteps : Report → Type 0
-HasCloseSteps r =
-    IfSome r.file (λ f. (k : ℕ) (e : Entry) (g : Game) → slice_get r.trail.items k ≡ Some e → e.next ≡ Some g
-    → IsCloseStep (declared_in r) (contexts_in r) (game_along r.work.pool.trees (game_in r f) (take k r.trail.items)) (tree_at r.work.pool.trees (Some g.root)) e.cost)
+HasCloseSteps r = IfSome r.file (λ f. (c : Course) → Leads r f c → AreCloseSteps r f c)

@@ -28,19 +28,21 @@ use Rattle.cv_report.specs.declared.report.Command.TheVariants as command
 use Rattle.cv_report.specs.declared.report.Report.{Report}
 use Rattle.cv_report.specs.declared.report.Status.{Status}
 use Rattle.cv_report.specs.declared.report.Status.TheVariants as status
-use Rattle.cv_report.specs.declared.report.Verdict.{Verdict}
-use Rattle.cv_report.specs.declared.report.Verdict.TheVariants.{NotProved, Proved}
+use Rattle.cv_report.specs.declared.report.Verdict.TheVariants.{Proved}
 use Rattle.cv_report.specs.declared.report.Which.TheVariants.{Depth, Nodes, Pool, Steps, Tokens}
 use Rattle.cv_scene.specs.Scenes.{Scene}
 use Rattle.cv_script.specs.Views.{StepItems, items_of_step}
 use Rattle.cv_script.specs.Views as items
 use Rattle.cv_steps.specs.Sequences.{scene}
 use Rattle.cv_steps_laws.specs.crypto.Conditions.{equivalence_of}
-use Rattle.cv.specs.Contexts.{contexts_in}
+use Rattle.cv.specs.Contexts.{contexts_of}
 use Rattle.cv.specs.Faults.{status_of as ended_by}
-use Rattle.cv_follow.specs.Scripts.{EndsScript, Follows, entry_in, entry_of, first_open, known_to, most_steps, verdicts_of}
+use Rattle.cv_follow.specs.Courses.{Course}
+use Rattle.cv_follow.specs.Scripts.{Follows, first_open, most_steps, verdicts_of}
+use Rattle.cv_kernel.specs.Followed.{known_to}
+use Rattle.cv_follow.specs.Walks.{EndsAlong}
 use Rattle.cv_follow.specs.Fillings.{StandsFor, has_word}
-use Rattle.cv_follow.specs.Searches.{AreMoves, EndsSearch, Finds}
+use Rattle.cv_follow.specs.Searches.{Finds, FindsAlong}
 use Rattle.cv.specs.Values.{Contexts, value_of}
 use Rattle.cv.specs.Words.{IsShort}
 
@@ -129,55 +131,51 @@ file_in r f n = content_in (take n r.work.names) r.work.decls.own r.work.pool.tr
 abbrev pub nodes_in : Report → File → ℕ
 nodes_in r f = content_nodes (content_at r.work f.game.root r.script)
 
--- What a report says of steps, whether they are those of a proof block or were found: each is accepted in turn, with its cost, the shape
--- of its context and its next game, and a query is proved where one of them closes it.
-pub record TakesSteps (r : Report) (f : File) : Type 0 where
-  pub proof : List Transition
-  pub last : Tree
-  pub leads : IsProof (declared_in r) (known_to r.work.decls.own) (game_in r f) proof last
-  pub trail : map (entry_in r.work.pool.trees) r.trail.items ≡ map entry_of proof
-  pub steps : r.steps.items ≡ map (λ e. e.step) r.trail.items
-  pub verdicts : r.verdicts.items ≡ verdicts_of proof (queries_in (declared_in r))
+-- A course is one of a report's file: its steps are accepted in turn.
+abbrev pub Leads : Report → File → Course → Type 0
+Leads r f c = IsProof (declared_in r) (known_to r.work.decls.own) (game_in r f) c.proof c.last
+
+-- A query is proved where a step of the course closes it; where memory ran out there are no verdicts.
+pub data HasVerdicts (r : Report) (c : Course) : Type 0 where
+  all : r.verdicts.items ≡ verdicts_of c.proof (queries_in (declared_in r)) → HasVerdicts r c
+  none : r.status ≡ status.Memory → r.verdicts.items ≡ [] → HasVerdicts r c
+
+-- What a report says of a course, whether its steps are those of a proof block or were found.
+pub record TakesSteps (r : Report) (f : File) (c : Course) : Type 0 where
+  pub leads : Leads r f c
+  pub verdicts : HasVerdicts r c
 
 -- Steps were found without a proof block, no more of them counted as moves than the command allows, and the search for more ended so.
-pub record FollowsStrategy (r : Report) (f : File) : Type 0 where
-  pub took : TakesSteps r f
-  pub made : ℕ
-  pub counted : AreMoves (map (λ t. t.step) took.proof) made
-  pub few : made ≤ moves_in r.command
-  pub ends : EndsSearch (moves_in r.command) made (length r.work.pool.trees) (scene (declared_in r) (known_to r.work.decls.own) took.last) (map (λ t. t.step) took.proof) (closed_by took.proof) (queries_in (declared_in r)) r.status
+abbrev pub FollowsStrategy : Report → Course → Type 0
+FollowsStrategy r c = FindsAlong (length r.work.pool.trees) (moves_in r.command) (declared_in r) r.work.decls.own c r.status
 
 -- The steps are those of the proof block that are accepted in turn, and in the place of the word `simplify` some that settle the game; the
 -- end is that of the first that isn't accepted, or of the end of the block.
-pub record FollowsScript (r : Report) (f : File) (script : List Tree) : Type 0 where
-  pub took : TakesSteps r f
+pub record FollowsScript (r : Report) (f : File) (script : List Tree) (c : Course) : Type 0 where
   pub steps : List Tree
   pub room : ℕ
   pub stands : StandsFor (nodes_in r f) script steps room
-  pub left : List Tree
-  pub split : steps ≡ map (λ t. t.step) took.proof ++ left
   pub end : Status
-  pub ends : EndsScript (room + nodes_along (declared_in r) (known_to r.work.decls.own) (game_in r f) took.proof) (length took.proof) (scene (declared_in r) (known_to r.work.decls.own) took.last) (closed_by took.proof) (queries_in (declared_in r)) left end
+  pub ends : EndsAlong room (declared_in r) r.work.decls.own (game_in r f) steps (queries_in (declared_in r)) c end
   pub ended : r.status ≡ ends_under r.command end
 
--- what is left is open
-abbrev pub open_verdict : Tree → Verdict
-open_verdict q = NotProved
-
--- Without a proof block `games` takes no step, and each query stays open.
-pub record ShowsFile (r : Report) : Type 0 where
-  pub steps : r.steps.items ≡ []
-  pub trail : r.trail.items ≡ []
-  pub verdicts : r.verdicts.items ≡ map open_verdict (queries_in (declared_in r))
+-- Without a proof block `games` takes no step.
+pub record ShowsFile (r : Report) (c : Course) : Type 0 where
+  pub steps : c.proof ≡ []
   pub status : r.status ≡ status.Done
 
-abbrev pub ProceedsWithout : (games : Bool) → Report → File → Type 0
-ProceedsWithout true r f = ShowsFile r
-ProceedsWithout false r f = FollowsStrategy r f
+abbrev pub ProceedsWithout : (games : Bool) → Report → Course → Type 0
+ProceedsWithout true r c = ShowsFile r c
+ProceedsWithout false r c = FollowsStrategy r c
 
-abbrev pub Proceeds : Report → File → Option (List Tree) → Type 0
-Proceeds r f None = ProceedsWithout (is_games r.command) r f
-Proceeds r f (Some script) = FollowsScript r f script
+abbrev pub ProceedsBy : Report → File → Course → Option (List Tree) → Type 0
+ProceedsBy r f c None = ProceedsWithout (is_games r.command) r c
+ProceedsBy r f c (Some script) = FollowsScript r f script c
+
+-- A run over a file goes along a course, as its proof block or the strategy has it, unless memory ran out behind some of its steps.
+pub record Proceeds (r : Report) (f : File) (c : Course) (block : Option (List Tree)) : Type 0 where
+  pub took : TakesSteps r f c
+  pub by : (r.status ≡ status.Memory) ⊎ ProceedsBy r f c block
 
 -- the status says that there is a file
 abbrev pub HasFile : Status → Type 0
@@ -192,6 +190,7 @@ MayHaveFile (status.Limit (Pool need)) = Unit {0}
 MayHaveFile (status.Limit (Nodes count)) = Unit {0}
 MayHaveFile (status.Limit (Depth depth)) = Unit {0}
 MayHaveFile status.Done = Unit {0}
+MayHaveFile status.Memory = Unit {0}
 MayHaveFile s = HasFile s
 
 abbrev pub IsAcceptance : Saying → Type 0
@@ -239,9 +238,12 @@ HoldsUpTo ds cs game query s =
     (i : Interpretation) → Satisfies ds i → (a : Adversary)
     → HasTapes (advantage (setting_of ds i) query a game) × HasTapes (value_of ds i cs query a s) × AtMost (advantage (setting_of ds i) query a game) (value_of ds i cs query a s)
 
--- Where the verdict on a query is `Proved`, the query holds up to the sum.
-abbrev pub IsSound : Report → Type 0
-IsSound r =
-    IfSome r.file (λ f. (k : ℕ) (query : Tree) (s : List Term)
+-- Where the verdict on a query is `Proved`, the query holds up to the sum, with the contexts of the course that was taken.
+abbrev pub HoldsAlong : Report → File → Course → Type 0
+HoldsAlong r f c =
+    (k : ℕ) (query : Tree) (s : List Term)
     → slice_get (queries_in (declared_in r)) k ≡ Some query → slice_get r.verdicts.items k ≡ Some (Proved s)
-    → HoldsUpTo (declared_in r) (contexts_in r) (game_in r f) query s)
+    → HoldsUpTo (declared_in r) (contexts_of r f c) (game_in r f) query s
+
+abbrev pub IsSound : Report → Type 0
+IsSound r = IfSome r.file (λ f. (c : Course) → TakesSteps r f c → HoldsAlong r f c)

@@ -134,13 +134,13 @@ pub fn end_under(command: Command, status: Status) -> Status
 
 /// What a request reads: the bytes of a file or a sample, and those of a library where one is named.
 #[derive(Drop)]
-pub struct Fetched {
+pub struct Source {
     pub bytes: Vec<u8>,
     pub library: Option<Vec<u8>>,
 }
 
 /// The bytes of a sample.
-fn sample(alloc: Global, number: u32) -> Result<Fetched, FetchError>
+fn sample(alloc: Global, number: u32) -> Result<Source, FetchError>
     ensures bytes { IfOk result (λ s. given_of s ≡ alone (sample_of number)) }
     ensures few { IfOk result (λ s. IsShort (given_of s)) }
     ensures never { ¬ IsErrOf result FetchError.Failed }
@@ -152,7 +152,7 @@ fn sample(alloc: Global, number: u32) -> Result<Fetched, FetchError>
     if bytes.len() > MOST_BYTES {
         return Err(FetchError::Long);
     }
-    Ok(Fetched {
+    Ok(Source {
         bytes,
         library: None,
     })
@@ -165,7 +165,7 @@ fn with_library<F: Shelf>(
     file: &str,
     library: Option<&str>,
     shelf: &mut F,
-) -> Result<Fetched, FetchError>
+) -> Result<Source, FetchError>
     ensures told { IfOk result (λ s. AreTold
         (source_under (F.told shelf.old) file.now (option_map (λ l. l.now) library.entry))
         (given_of s)) }
@@ -180,13 +180,13 @@ fn with_library<F: Shelf>(
 {
     let bytes = shelf.fetch(alloc, file, MOST_BYTES)?;
     let Some(name) = library else {
-        return Ok(Fetched {
+        return Ok(Source {
             bytes,
             library: None,
         });
     };
     let more = shelf.fetch(alloc, name, MOST_BYTES)?;
-    Ok(Fetched {
+    Ok(Source {
         bytes,
         library: Some(more),
     })
@@ -194,11 +194,11 @@ fn with_library<F: Shelf>(
 
 /// What a request reads: its file and its library, or a sample.
 #[tactic(auto, using(crate::proofs::Sources::sources))]
-pub fn source<F: Shelf>(
+pub fn fetch_source<F: Shelf>(
     alloc: Global,
     request: Request<'_>,
     shelf: &mut F,
-) -> Result<Fetched, FetchError>
+) -> Result<Source, FetchError>
     ensures told { IfOk result (λ s. AreTold
         (source_asked (F.told shelf.old) (Some (asked_of request.entry))) (given_of s)) }
     ensures few { IfOk result (λ s. IsShort (given_of s)) }

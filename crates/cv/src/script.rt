@@ -8,25 +8,27 @@ ghost use Rattle.cv_accept.specs.Works.{HasSteps, content_at, content_nodes};
 ghost use Rattle.cv_accept.specs.Accepted.{most_pool};
 ghost use Rattle.cv_scene_view.specs.Kept.{scene_of};
 ghost use Rattle.cv_kernel_crypto.specs.Applied.{HasEquivalences};
+ghost use Rattle.cv_costs.specs.Factors.{parameters_in};
 ghost use Rattle.cv.specs.Runs.{Runs};
 
 use crate::asked::end_under;
+use crate::decide::Run;
 use cv_follow::{Walk, follow_block};
-use cv_report::outcome::refused;
-use cv_report::verdicts::steps_of;
-use cv_report::{Command, Report, Status};
+use cv_outside::Sink;
+use cv_report::{Command, Report, Stream};
 use cv_script::Step;
 use cv_syntax::{File, Work};
 use std::alloc::Global;
 
 /// A run over a file with a proof block: its steps are followed.
-pub fn run_script(
+pub fn run_script<K: Sink>(
     alloc: Global,
     work: Work,
     command: Command,
     file: File,
     script: Vec<Step>,
-) -> Report
+    sink: &mut K,
+) -> Run
     requires game { file.game.root.0 < length work.pool.trees }
     requires small { size (tree_at work.pool.trees (Some file.game.root)) ≤ 50000 }
     requires formed { IsWellFormed (declarations work.pool.trees work.decls.list)
@@ -37,30 +39,24 @@ pub fn run_script(
     requires nodes { length work.pool.trees
         ≤ content_nodes (content_at work file.game.root (Some script)) }
     requires steps { HasSteps work.pool.limit work.pool.trees script.items }
-    ensures run { Runs (content_at work file.game.root (Some script)) file result }
-    ensures command { result.command ≡ command }
+    ensures run { Runs (content_at work file.game.root (Some script)) file
+        (parameters_in work.decls.list) (K.taken sink.old) (K.taken sink.new)
+        (K.faults sink.old) (K.faults sink.new) result.stream result.report }
+    ensures command { result.report.command ≡ command }
 {
     let mut work = work;
-    let Ok(walk) = follow_block(alloc, &mut work, file.game, &script) else {
-        return refused(alloc, work, command, Status::Memory);
-    };
-    let Ok(steps) = steps_of(alloc, &walk.trail) else {
-        return refused(alloc, work, command, Status::Memory);
-    };
+    let mut stream = Stream::begin(alloc, sink, &work, command, file.game);
     let Walk {
-        trail,
         verdicts,
         status: end,
-    } = walk;
-    let status = end_under(command, end);
-    Report {
+    } = follow_block(alloc, &mut work, file.game, &script, &mut stream, sink);
+    let report = Report {
         work,
         file: Some(file),
         command,
         script: Some(script),
-        steps,
-        trail,
         verdicts,
-        status,
-    }
+        status: end_under(command, end),
+    };
+    Run { report, stream }
 }

@@ -2,13 +2,14 @@
 use crate::following::Followed;
 use crate::statuses::say_ending;
 use crate::words::Asked;
-use cv_explain_games::{Listing, Scene, listing_of, pairs_of, say_pair, say_refused, say_remarks};
+use cv_explain_games::{
+    Context, Listing, Scene, context_of, listing_of, pairs_of, say_pair, say_refused, say_remarks,
+};
 use cv_explain_queries::say_open;
 use cv_explain_source::{Page, Source, Text, query_of};
 use cv_grounds::{Survey, theory_of};
 use cv_report::{Cause, Status, Verdict};
 use cv_syntax::Game;
-use std::alloc::AllocError;
 
 /// The number of the game that is shown: the one that is asked for, or that of the last one.
 fn shown_of(asked: Asked, count: usize) -> usize {
@@ -119,15 +120,93 @@ fn say_cause(page: &mut Page, followed: &Followed, last: Game) {
     }
 }
 
+/// The contexts of the steps `crypto` that were accepted.
+fn contexts_of(page: &mut Page, followed: &Followed) -> Vec<Context> {
+    let mut contexts = Vec::new(page.alloc());
+    let mut game = followed.file.game;
+    let mut number = 0_u32;
+    for entry in followed.trail() {
+        number = number.saturating_add(1);
+        if let Some(context) = context_of(&followed.work, number, game, entry.step) {
+            page.push(&mut contexts, context);
+        }
+        game = entry.next.unwrap_or(game);
+    }
+    contexts
+}
+
 /// Says of each equivalence and each key of a game which instances there are, where a query is open, and then the remarks on the first game.
-fn say_keys(page: &mut Page, scene: Scene, first: Scene, text: &Text, status: Status) {
-    if let Status::Open(_) = status {
+fn say_keys(page: &mut Page, scene: Scene, first: Scene, text: &Text, followed: &Followed) {
+    if let Status::Open(_) = followed.walk.status {
         for pair in &pairs_of(page, scene.work, scene.listing) {
             say_pair(page, scene, *pair);
         }
     }
     let pairs = pairs_of(page, first.work, first.listing);
-    say_remarks(page, first, text, &pairs);
+    let contexts = contexts_of(page, followed);
+    say_remarks(page, first, text, &pairs, &contexts);
+}
+
+/// Says of the keys, and the remarks, behind what is said of the queries.
+fn say_rest(page: &mut Page, scene: Scene, text: &Text, followed: &Followed) {
+    let game = followed.file.game;
+    let listing = listing_of(page, scene.work, game);
+    let found = Survey::of(page.alloc(), &scene.work.pool, game);
+    if let Some(survey) = page.got(found) {
+        let first = Scene {
+            game,
+            listing: &listing,
+            survey: &survey,
+            ..scene
+        };
+        say_keys(page, scene, first, text, followed);
+    }
+}
+
+/// Says what is known in a scene: of the queries, and of the rest where no query is asked for.
+fn say_scene(
+    page: &mut Page,
+    scene: Scene,
+    source: Source,
+    text: &Text,
+    followed: &Followed,
+    asked: Asked,
+) {
+    say_verdicts(page, scene, source, text, followed, asked);
+    if asked.query.is_none() {
+        say_rest(page, scene, text, followed);
+    }
+}
+
+/// Says what is known in a game with these lines.
+fn say_known(
+    page: &mut Page,
+    source: Source,
+    text: &Text,
+    followed: &Followed,
+    asked: Asked,
+    game: Game,
+    listing: &Listing,
+) {
+    let work = &followed.work;
+    let survey = Survey::of(page.alloc(), &work.pool, game);
+    let theory = theory_of(page.alloc(), &work.pool, &work.decls);
+    if let (Some(survey), Some(theory)) = (page.got(survey), page.got(theory)) {
+        let scene = Scene {
+            work,
+            game,
+            listing,
+            survey: &survey,
+            theory: &theory,
+        };
+        say_scene(page, scene, source, text, followed, asked);
+    }
+}
+
+/// The game of a number, from 1; the file's own where there is none.
+fn game_of(games: &[Game], number: usize, start: Game) -> Game {
+    let found = games.get(number.saturating_sub(1));
+    found.copied().unwrap_or(start)
 }
 
 /// Explains a file whose steps were followed.
@@ -137,38 +216,17 @@ pub fn say_followed(
     text: &Text,
     followed: &Followed,
     asked: Asked,
-) -> Result<(), AllocError> {
-    let work = &followed.work;
-    let start = followed.file.game;
-    let games = followed.games(page.alloc())?;
+) {
+    let found = followed.games(page.alloc());
+    let games = page.took(found);
     let number = shown_of(asked, games.len());
-    let game = games
-        .get(number.saturating_sub(1))
-        .copied()
-        .unwrap_or(start);
-    let listing = listing_of(page, work, game);
+    let game = game_of(&games, number, followed.file.game);
+    let listing = listing_of(page, &followed.work, game);
     say_game(page, number, games.len(), &listing);
-    say_cause(page, followed, games.last().copied().unwrap_or(start));
-    let survey = Survey::of(page.alloc(), &work.pool, game)?;
-    let theory = theory_of(page.alloc(), &work.pool, &work.decls)?;
-    let scene = Scene {
-        work,
-        game,
-        listing: &listing,
-        survey: &survey,
-        theory: &theory,
-    };
-    say_verdicts(page, scene, source, text, followed, asked);
-    if asked.query.is_some() {
-        return Ok(());
-    }
-    let start_survey = Survey::of(page.alloc(), &work.pool, start)?;
-    let first = Scene {
-        game: start,
-        listing: &listing_of(page, work, start),
-        survey: &start_survey,
-        ..scene
-    };
-    say_keys(page, scene, first, text, followed.walk.status);
-    Ok(())
+    say_cause(
+        page,
+        followed,
+        game_of(&games, games.len(), followed.file.game),
+    );
+    say_known(page, source, text, followed, asked, game, &listing);
 }

@@ -12,6 +12,8 @@ ghost use Rattle.cv_kernel_crypto.specs.Applied.{HasEquivalences};
 
 use cv_accept::{Accepted, FileError, read};
 use cv_follow::{Walk, follow_block, search};
+use cv_outside::SureSink;
+use cv_report::{Entry, Status, Stream};
 use cv_script::Step;
 use cv_syntax::{File, Game, Work};
 use std::alloc::{AllocError, Global};
@@ -25,13 +27,14 @@ const MOST_BYTES: usize = 1_048_576;
 /// How many moves the search makes at most.
 const MOVES: u32 = 32;
 
-/// A file that was followed: its trees, its steps, and what they lead to.
+/// A file that was followed: its trees, its steps, and what they lead to, with the accepted steps, which the stream keeps.
 #[derive(Drop)]
 pub struct Followed {
     pub work: Work,
     pub file: File,
     pub script: Option<Vec<Step>>,
     pub walk: Walk,
+    stream: Stream,
 }
 
 /// Why there is nothing to tell of a file's steps.
@@ -48,8 +51,13 @@ impl From<AllocError> for Stopped {
     }
 }
 
-/// Follows the steps of an accepted file.
-fn walk_of(alloc: Global, work: &mut Work, accepted: &Accepted) -> Result<Walk, AllocError>
+/// Follows the steps of an accepted file, which a stream keeps. Nothing is put.
+fn walk_of(
+    alloc: Global,
+    work: &mut Work,
+    accepted: &Accepted,
+    stream: &mut Stream,
+) -> Result<Walk, AllocError>
     requires game { accepted.now.file.game.root.0 < length work.old.pool.trees }
     requires small { size (tree_at work.old.pool.trees (Some accepted.now.file.game.root)) ≤ 50000 }
     requires below { All (IsBelow (length work.old.pool.trees)) work.old.decls.list }
@@ -60,10 +68,17 @@ fn walk_of(alloc: Global, work: &mut Work, accepted: &Accepted) -> Result<Walk, 
         HasSteps work.old.pool.limit work.old.pool.trees s.items) }
     requires formed { IsWellFormed (declarations work.old.pool.trees work.old.decls.list)
         (tree_at work.old.pool.trees (Some accepted.now.file.game.root)) }
+    requires begun { stream.old.steps ≡ 0 }
 {
-    match &accepted.script {
-        Some(steps) => follow_block(alloc, work, accepted.file.game, steps),
-        None => search(alloc, work, accepted.file.game, MOVES, false),
+    let mut sink = SureSink::new(alloc, 0)?;
+    let game = accepted.file.game;
+    let walk = match &accepted.script {
+        Some(steps) => follow_block(alloc, work, game, steps, stream, &mut sink),
+        None => search(alloc, work, game, MOVES, false, stream, &mut sink),
+    };
+    match walk.status {
+        Status::Memory => Err(AllocError),
+        _ => Ok(walk),
     }
 }
 
@@ -81,13 +96,15 @@ fn follow_accepted(alloc: Global, work: Work, accepted: Accepted) -> Result<Foll
         (tree_at work.pool.trees (Some accepted.file.game.root)) }
 {
     let mut work = work;
-    let walk = walk_of(alloc, &mut work, &accepted)?;
+    let mut stream = Stream::kept(alloc);
+    let walk = walk_of(alloc, &mut work, &accepted, &mut stream)?;
     let Accepted { file, script } = accepted;
     Ok(Followed {
         work,
         file,
         script,
         walk,
+        stream,
     })
 }
 
@@ -131,11 +148,16 @@ pub fn follow(alloc: Global, bytes: &[u8], library: Option<&[u8]>) -> Result<Fol
 }
 
 impl Followed {
+    /// The steps that were accepted, each with the game that it leads to.
+    pub fn trail(&self) -> &[Entry] {
+        self.stream.trail()
+    }
+
     /// The games: that of the file, and those to which its steps lead.
     pub fn games(&self, alloc: Global) -> Result<Vec<Game>, AllocError> {
         let mut games = Vec::new(alloc);
         games.push(self.file.game)?;
-        for entry in &self.walk.trail {
+        for entry in self.trail() {
             if let Some(next) = entry.next {
                 games.push(next)?;
             }
@@ -160,8 +182,9 @@ impl Followed {
 
     /// How many steps were accepted through a step that is among those from one on.
     fn behind(&self, from: usize, step: Step) -> Option<usize> {
-        for k in from..self.walk.trail.len() {
-            if self.walk.trail[k].step.0.0 == step.0.0 {
+        let trail = self.trail();
+        for k in from..trail.len() {
+            if trail[k].step.0.0 == step.0.0 {
                 return Some(k + 1);
             }
         }

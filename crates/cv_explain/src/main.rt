@@ -27,6 +27,6 @@ fn main(rt: HostRuntime) -> ExitCode {
         return ExitCode::from(6);
     };
     let mut shelf = FileShelf::new(alloc, &rt);
-    let mut sink = OutSink::new(&rt);
+    let mut sink = OutSink::new(alloc, &rt);
     ExitCode::from(run(alloc, &words, &mut shelf, &mut sink))
 }

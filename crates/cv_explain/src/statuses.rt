@@ -3,7 +3,7 @@ use cv_accept::FileError;
 use cv_explain_source::Page;
 use cv_parse::ParseError;
 use cv_report::outcome::refused;
-use cv_report::{Command, FileFault, Status, Which, report_text};
+use cv_report::{Command, FileFault, Status, Which, rest_text};
 use cv_syntax::{BuildError, Work};
 
 /// How tokens that are no file end a run.
@@ -84,7 +84,7 @@ pub fn say_report(page: &mut Page, status: Status) {
     let alloc = page.alloc();
     let report = refused(alloc, Work::new(alloc, 0), Command::Nothing, status);
     page.say("report: ");
-    let shown = report_text(alloc, &report);
+    let shown = rest_text(alloc, &report);
     let line = page.took(shown);
     page.add(&line);
 }

@@ -1,7 +1,7 @@
 // From words to text.
 use crate::accepted::say_followed;
 use crate::following::{Stopped, follow};
-use crate::refused::{say_fault, text_of};
+use crate::refused::{file_text_of, say_fault};
 use crate::statuses::{say_ending, say_report, status_of};
 use crate::words::{Asked, HELP, Request, VERSION, asked_by};
 use cv_explain_source::{Page, Source};
@@ -26,13 +26,13 @@ fn explain(
     let more = library.map(|library| library.bytes);
     match follow(page.alloc(), source.bytes, more) {
         Ok(followed) => {
-            if let Some(text) = text_of(page.alloc(), source.bytes, more)? {
-                say_followed(page, source, &text, &followed, asked)?;
+            if let Some(text) = file_text_of(page, source.bytes, more) {
+                say_followed(page, source, &text, &followed, asked);
             }
             Ok(followed.walk.status)
         }
         Err(Stopped::Refused(fault)) => {
-            say_fault(page, source, library, fault)?;
+            say_fault(page, source, library, fault);
             Ok(status_of(fault))
         }
         Err(Stopped::Long) => {
@@ -117,18 +117,13 @@ fn answer<F: Shelf>(
 fn put<K: Sink>(sink: &mut K, text: &[u8]) -> bool {
     let mut done = 0;
     for _ in 0..text.len() {
-        let Some(rest) = text.get(done..) else {
-            return true;
-        };
-        if rest.is_empty() {
-            return true;
-        }
+        let rest = text.get(done..).unwrap_or(&[]);
         match sink.put(rest) {
             Ok(count) => done = done.saturating_add(count),
             Err(_) => return false,
         }
     }
-    true
+    sink.flush().is_ok()
 }
 
 /// All that the program does; the exit code.

@@ -1,52 +1,57 @@
 -- Scripts with the word `simplify`, step by step.
-use Rattle.std.proofs.Common.{◌≡◌, ℕ, zero, suc, get_or, ◌+◌, ◌<◌, ◌≤◌, ◌&&◌, ◌||◌, Bool, true, false, List, [], ◌∷◌, ◌++◌, length, map, drop, take, refl, ap, ap₂, sym, ◌∙◌, subst, arith, append-nil, Option, Some, None, Result, Ok, Err}
+use Rattle.std.proofs.Common.{◌≡◌, ℕ, zero, suc, get_or, ◌+◌, ◌<◌, ◌≤◌, ◌&&◌, ◌||◌, Bool, true, false, List, [], ◌∷◌, ◌++◌, length, drop, take, refl, ap, ap₂, sym, ◌∙◌, subst, arith, append-nil, Option, Some, None, Result, Ok, Err}
 use Rattle.std.proofs.lemmas.Bool.{and_parts, or_parts}
 use Rattle.std.proofs.lemmas.List.{append_assoc, map-append, map_more}
 use Rattle.std.specs.List.{list_all}
 use Rattle.std.specs.Prelude.{All, IfOk}
 use Rattle.cv_accept.proofs.Blocks.{root_grown}
-use Rattle.cv_accept.specs.Accepted.{Content}
-use Rattle.cv_accept.specs.Works.{content_nodes}
 use Rattle.cv_bound.specs.costs.Sums.{no_sums}
 use Rattle.cv_bound.specs.closings.Queries.{first_unclosed, numbers_of, sum_in}
-use Rattle.cv_kernel.specs.Drawings.{DrawsAlong}
-use Rattle.cv_kernel.proofs.Drawn.{block_before}
+use Rattle.cv_kernel.specs.Keeping.{StaysUpTo}
 use Rattle.cv_kernel.specs.Proofs.{closed_by, nodes_along}
 use Rattle.cv_kernel.specs.Reducings.{reducing_in}
 use Rattle.cv_kernel.specs.Sequences.{IsPushed, Same, Stands, game_in, needed_for}
 use Rattle.cv_kernel.specs.declared.error.PushError.{PushError}
 use Rattle.cv_kernel.specs.declared.reducing.Reducing.{Reducing}
-use Rattle.cv_kernel.specs.declared.sequence.Sequence.{Sequence}
+use Rattle.cv_kernel.proofs.Drawn.{block_before}
 use Rattle.cv_kernel_crypto.specs.Applied.{DrawsNext}
-use Rattle.cv_parse.specs.Declaring.{IsBelow}
 use Rattle.cv_pool.specs.KindTree.{KindTree}
 use Rattle.cv_pool.specs.PoolView.{Grows}
-use Rattle.cv_report.specs.declared.report.Entry.{Entry}
+use Rattle.cv_scene_view.specs.Kept.{scene_of}
+use Rattle.cv_script.specs.Views.{items_of_step}
+use Rattle.cv_kernel.specs.declared.sequence.Sequence.{Sequence}
+use Rattle.cv_parse.specs.Declaring.{IsBelow}
+use Rattle.cv_report.specs.Lines.{Lines}
 use Rattle.cv_report.specs.declared.report.Status.{Status}
 use Rattle.cv_report.specs.declared.report.Status.TheVariants as status
-use Rattle.cv_report.specs.declared.report.Verdict.{Verdict}
 use Rattle.cv_report.specs.declared.report.Which.{Which}
-use Rattle.cv_report.specs.verdicts.Verdicts.{ended_with, verdicts_by}
-use Rattle.cv_scene_view.specs.Kept.{scene_of}
-use Rattle.cv_script.specs.reader.Scripts.{trees_of}
+use Rattle.cv_report.specs.declared.stream.Stream.{Stream}
+use Rattle.cv_report.specs.verdicts.Verdicts.{ended_with}
 use Rattle.cv_script.specs.declared.steps.Step.{Step}
-use Rattle.cv_script.specs.Views.{items_of_step}
+use Rattle.cv_script.specs.reader.Scripts.{trees_of}
 use Rattle.cv_steps.specs.Sequences.{scene}
-use Rattle.cv_syntax.specs.Classes.{DeclsView, queries}
+use Rattle.cv_syntax.specs.Classes.{queries}
 use Rattle.cv_syntax.specs.Declarations.{declarations}
-use Rattle.cv_syntax.specs.declared.work.Work.{Work}
 use Rattle.cv_syntax.specs.PoolTrees.{tree_at}
+use Rattle.cv_syntax.specs.declared.work.Work.{Work}
 use Rattle.cv_syntax_trees.specs.Declarations.{Declaration}
 use Rattle.cv_syntax_trees.specs.Tree.{Tree}
 use Rattle.cv_follow.specs.declared.searching.Tried.{Tried}
 use Rattle.cv_follow.specs.declared.searching.Tried.TheVariants.{Accepted, Nothing, Passed, Refused}
 use Rattle.cv_follow.specs.declared.walk.Walk.{Walk}
-use Rattle.cv_follow.specs.Scripts.{Follows, Stops, Told, entry_in, entry_of, known_to, led, verdicts_of}
-use Rattle.cv_follow.specs.Searches.{HasFound, IsKept, MayTry}
-use Rattle.cv_follow.specs.Walks.{IsNoted, IsWalk, stop_of}
-use Rattle.cv_follow.specs.Fillings.{Advances, AdvancesBy, EndsNext, Fills, IsBlockWalk, IsFilledWalk, IsFilling, IsSettled, IsTaken, SettlesAll, SettlesOne, StandsBy, StandsFor, TakesOne, ended_by, goes_on_behind, has_word, is_word, itself, nothing, settled, settles}
-use Rattle.cv_follow.proofs.Following.{asked_by, ends_wider, split_here, stops_wider, walk_ends, walk_stops}
-use Rattle.cv_follow.proofs.Tries.{found_again, found_more, found_none, found_put, game_stays, kept_back, kept_both, kept_forgotten, may_again, steps_counted, stops_by}
+use Rattle.cv_follow.specs.Courses.{Course, IsReached, PutsCourse, PutsOn, course_at, leg_of, lines_in}
+use Rattle.cv_follow.specs.Scripts.{Stops}
+use Rattle.cv_kernel.specs.Followed.{known_to}
+use Rattle.cv_follow.specs.Searches.{CutsBehind, HasFound, HasGrown, IsGivenBack, IsKept, IsMore, MayTry, PutsBehind}
+use Rattle.cv_follow.specs.Walks.{IsStopped, IsWalk, course_of, stop_of}
+use Rattle.cv_follow.specs.Fillings.{Advances, AdvancesBy, BreaksOff, EndsNext, Fills, GoesOn, IsBlockWalk, IsFilledWalk, IsFilling, IsTaken, SettlesAll, SettlesOne, StandsBy, TakesOne, ended_by, goes_on_behind, has_word, is_word, itself, nothing, settled, settles}
+use Rattle.cv_follow.proofs.Coming.{more_before}
+use Rattle.cv_follow.proofs.Courses.{lines_put, lines_same, puts_leg, puts_nothing, puts_then}
+use Rattle.cv_follow.proofs.Following.{asked, split_here, stops_wider}
+use Rattle.cv_follow.proofs.Gone.{course_is, grows_kept, reached_cut, reached_so_far, tables_many}
+use Rattle.cv_follow.proofs.Left.{walk_ends, walk_spent, walk_stops}
+use Rattle.cv_follow.proofs.Searches.{leg_found}
+use Rattle.cv_follow.proofs.Tries.{found_again, found_back, found_more, found_none, game_stays, kept_both, may_again, steps_counted, stops_by}
 
 -- what fills scripts fills them together
 
@@ -92,271 +97,362 @@ fills_plain _ _ n nothing = refl
 fills_plain _ _ n (itself t script steps e d) = ap (λ ts. t ∷ ts) (fills_plain script steps (or_parts (is_word t) (has_word script) n).1 d)
 fills_plain _ _ n (settled t found script steps e f d) = absurd (let i = sym e ∙ (or_parts (is_word t) (has_word script) n).0 in cc)
 
--- a step is taken behind those that were found
+-- a step is taken behind those that were found, or ends the run
 
-module _ (start old new : Work) (first : Tree) (below : All (IsBelow (length start.pool.trees)) start.decls.list) (s mid t : Sequence) (trail : List Entry) (same : Same s mid) (may : MayTry old s) (step : Step) (live : step.0.0 < length old.pool.trees) (h : HasFound false start old first s trail) where
-  abbrev tree : Tree
-  tree = tree_at old.pool.trees (Some step.0)
+module _ (start old new : Work) (first : Tree) (below : All (IsBelow (length start.pool.trees)) start.decls.list) (s t : Sequence) where
+  pub takes_more : (other : Sequence) → MayTry old s → (step : Step) → step.0.0 < length old.pool.trees → (h : HasFound false start old first s) → (u : Unit {0}) → IsPushed old.pool old.decls new.pool.trees s t (tree_at old.pool.trees (Some step.0)) (Ok u) → Grows old.pool new.pool → Stands new.pool.trees new.decls t
+      → length new.pool.trees ≤ length old.pool.trees + needed_for (scene_of old.pool old.decls s.game.root) (tree_at old.pool.trees (Some step.0)) (game_in new.pool.trees t) (items_of_step (tree_at old.pool.trees (Some step.0))) → take (length old.names) new.names ≡ old.names → new.decls ≡ old.decls
+      → ((r : Reducing) → reducing_in (tree_at old.pool.trees (Some step.0)) ≡ Some r → DrawsNext old.names new.names old.decls.own (scene_of old.pool old.decls s.game.root) r.equivalence r.key (game_in new.pool.trees t)) → (reducing_in (tree_at old.pool.trees (Some step.0)) ≡ None → new.names ≡ old.names)
+      → Same t other → other.arrays ≡ None → IsTaken start old new first s other h step.0 (tree_at old.pool.trees (Some step.0))
+  takes_more other m step live h u p g stands few names decls draws alone same empty =
+      let tree : Tree = tree_at old.pool.trees (Some step.0) in
+      let more = found_more start old new first below s t h step.0 live other u m p g stands few names decls old.names (block_before old.names old.decls.own (game_in old.pool.trees s) (items_of_step tree)) draws alone same empty in
+      record { more = more; taken = more.tree ∙ root_grown old.pool new.pool step.0 g live }
 
-  module _ (after : List Entry) (u : Unit {0}) (p : IsPushed old.pool old.decls new.pool.trees mid t tree (Ok u)) (n : IsNoted t step (tree_at new.pool.trees (Some step.0)) trail after) (g : Grows old.pool new.pool) (stands : Stands new.pool.trees new.decls t)
-      (few : length new.pool.trees ≤ length old.pool.trees + needed_for (scene_of old.pool old.decls mid.game.root) tree (game_in new.pool.trees t) (items_of_step tree)) (names : take (length old.names) new.names ≡ old.names) (decls : new.decls ≡ old.decls)
-      (draws : (r : Reducing) → reducing_in tree ≡ Some r → DrawsNext old.names new.names old.decls.own (scene_of old.pool old.decls mid.game.root) r.equivalence r.key (game_in new.pool.trees t)) (alone : reducing_in tree ≡ None → new.names ≡ old.names) where
-    pub takes_more : IsTaken start new first tree h.found t after
-    takes_more =
-        let forgot = kept_forgotten old s mid trail same in
-        let a = found_again start old old first s mid trail trail h may.stands.live forgot in
-        let m = may_again old old s mid trail trail may forgot in
-        record {
-          next = found_more start old new first below mid t trail a.again step live after u m p n g stands few names decls old.names (block_before old.names old.decls.own (game_in old.pool.trees mid) (items_of_step tree)) draws alone;
-          put = found_put start old new first below mid t trail a.again step live after u m p n g stands few names decls old.names (block_before old.names old.decls.own (game_in old.pool.trees mid) (items_of_step tree)) draws alone ∙ ap (λ (xs : List Tree). xs ++ tree ∷ []) a.found;
-        }
+  pub takes_ends : MayTry old s → (step : Step) → (live : step.0.0 < length old.pool.trees) → (h : HasFound false start old first s) → (e : PushError) (end : Status) → IsPushed old.pool old.decls new.pool.trees s t (tree_at old.pool.trees (Some step.0)) (Err e) → stop_of e s.steps ≡ Some end → new.pool.trees ≡ old.pool.trees
+      → EndsNext start old new first s h (tree_at old.pool.trees (Some step.0)) end
+  takes_ends m step live h e end p i kept = stops_by start old new first below s t h step.0 live e m p kept end i
 
-  pub takes_ends : (e : PushError) (end : Status) → IsPushed old.pool old.decls new.pool.trees mid t tree (Err e) → stop_of e mid.steps ≡ Some end → new.pool.trees ≡ old.pool.trees → IsKept old new mid t trail trail → EndsNext start old new first s trail h tree end
-  takes_ends e end p i kept k =
-      let ds : List Declaration = declarations start.pool.trees start.decls.list in
-      let own : ℕ → Bool = known_to start.decls.own in
-      let forgot = kept_forgotten old s mid trail same in
-      let a = found_again start old old first s mid trail trail h may.stands.live forgot in
-      let one = stops_by start old new first below mid t trail a.again step live e (may_again old old s mid trail trail may forgot) p kept k end i in
-      let two = subst (λ (xs : List Tree). Stops (length new.pool.trees) (length xs) (scene ds own (game_in old.pool.trees mid)) (closed_by a.again.followed.proof) tree end) a.found one in
-      let three = subst (λ x. Stops (length new.pool.trees) (length h.found) (scene ds own x) (closed_by a.again.followed.proof) tree end) (game_stays old old s mid forgot.grows same may.stands.live) two in
-      subst (λ ts. Stops (length new.pool.trees) (length h.found) (scene ds own (game_in old.pool.trees s)) (closed_by ts) tree end) a.proof three
+-- what comes of a step that is proposed to settle the game
 
--- what comes of one that is proposed to settle the game
+pub settles_taken : (old new : Work) (step : Step) (s t : Sequence) (tree : Tree) → settles tree ≡ true → TakesOne old new step.0 tree s t None → SettlesOne old new s t (Accepted step false)
+settles_taken old new step s t tree e w = (
+  w.0,
+  λ start first below h. (
+      let d = w.1 start first below h in
+      record { more = d.more; settling = ap settles d.taken ∙ e }
+      ),
+)
 
-pub settles_taken : (old new : Work) (step : Tree) (s t : Sequence) (trail after : List Entry) → settles step ≡ true → TakesOne old new step s t trail after None → SettlesOne old new s t trail after (Accepted false)
-settles_taken old new step s t trail after e w = λ start first below h.
-    let d = w start first below h in
-    record { next = d.next; more = step ∷ []; put = d.put; settled = ap (λ (b : Bool). b && true) e }
-
-pub settles_passed : (old new : Work) (step : Tree) (s t : Sequence) (trail after : List Entry) (which : Which) → settles step ≡ true → TakesOne old new step s t trail after (Some (status.Limit which)) → SettlesOne old new s t trail after (Passed which)
-settles_passed old new step s t trail after which e w = (w.0, λ start first below h. record { step = step; settling = e; ends = w.1 start first below h })
+pub settles_passed : (old new : Work) (step : Step) (s t : Sequence) (tree : Tree) (which : Which) → settles tree ≡ true → TakesOne old new step.0 tree s t (Some (status.Limit which)) → SettlesOne old new s t (Passed which)
+settles_passed old new step s t tree which e w = (w.0, λ start first below h. record { step = tree; settling = e; ends = w.1 start first below h })
 
 -- a run ends by a step in the same way where nothing was taken before
 
-module _ (start old mid new : Work) (first : Tree) (s t : Sequence) (trail after : List Entry) (h : HasFound false start old first s trail) (live : s.game.root.0 < length old.pool.trees) (k : IsKept old mid s t trail after) where
-  pub ends_before : (step : Tree) (end : Status) (i : HasFound false start mid first t after) → i.found ≡ h.found → i.followed.proof ≡ h.followed.proof → EndsNext start mid new first t after i step end → EndsNext start old new first s trail h step end
+module _ (start old mid new : Work) (first : Tree) (s t : Sequence) (h : HasFound false start old first s) (live : s.game.root.0 < length old.pool.trees) (k : IsKept old mid s t) where
+  ends_before : (step : Tree) (end : Status) (i : HasFound false start mid first t) → i.found ≡ h.found → i.gone.followed.proof ≡ h.gone.followed.proof → EndsNext start mid new first t i step end → EndsNext start old new first s h step end
   ends_before step end i e p w =
       let ds : List Declaration = declarations start.pool.trees start.decls.list in
       let own : ℕ → Bool = known_to start.decls.own in
       subst (λ ts. Stops (length new.pool.trees) (length h.found) (scene ds own (game_in old.pool.trees s)) (closed_by ts) step end) p
-      (subst (λ x. Stops (length new.pool.trees) (length h.found) (scene ds own x) (closed_by i.followed.proof) step end) (game_stays old mid s t k.grows k.sequence live)
-      (subst (λ (xs : List Tree). Stops (length new.pool.trees) (length xs) (scene ds own (game_in mid.pool.trees t)) (closed_by i.followed.proof) step end) e w))
+      (subst (λ x. Stops (length new.pool.trees) (length h.found) (scene ds own x) (closed_by i.gone.followed.proof) step end) (game_stays old mid s t k.grows k.sequence live)
+      (subst (λ (xs : List Tree). Stops (length new.pool.trees) (length xs) (scene ds own (game_in mid.pool.trees t)) (closed_by i.gone.followed.proof) step end) e w))
 
-  pub ends_behind : (step : Tree) (end : Status) (i : HasFound false start mid first t after) → i.found ≡ h.found → i.followed.proof ≡ h.followed.proof → EndsNext start old new first s trail h step end → EndsNext start mid new first t after i step end
+  ends_behind : (step : Tree) (end : Status) (i : HasFound false start mid first t) → i.found ≡ h.found → i.gone.followed.proof ≡ h.gone.followed.proof → EndsNext start old new first s h step end → EndsNext start mid new first t i step end
   ends_behind step end i e p w =
       let ds : List Declaration = declarations start.pool.trees start.decls.list in
       let own : ℕ → Bool = known_to start.decls.own in
       subst (λ ts. Stops (length new.pool.trees) (length i.found) (scene ds own (game_in mid.pool.trees t)) (closed_by ts) step end) (sym p)
-      (subst (λ x. Stops (length new.pool.trees) (length i.found) (scene ds own x) (closed_by h.followed.proof) step end) (sym (game_stays old mid s t k.grows k.sequence live))
-      (subst (λ (xs : List Tree). Stops (length new.pool.trees) (length xs) (scene ds own (game_in old.pool.trees s)) (closed_by h.followed.proof) step end) (sym e) w))
+      (subst (λ x. Stops (length new.pool.trees) (length i.found) (scene ds own x) (closed_by h.gone.followed.proof) step end) (sym (game_stays old mid s t k.grows k.sequence live))
+      (subst (λ (xs : List Tree). Stops (length new.pool.trees) (length xs) (scene ds own (game_in old.pool.trees s)) (closed_by h.gone.followed.proof) step end) (sym e) w))
 
 -- a pool grew before a try
 
-pub settles_before : (old mid new : Work) (s t : Sequence) (trail after : List Entry) → s.game.root.0 < length old.pool.trees → IsKept old mid s s trail trail → (tried : Tried) → SettlesOne mid new s t trail after tried → SettlesOne old new s t trail after tried
-settles_before old mid new s t trail after live k (Accepted moved) w = λ start first below h.
-    let a = found_again start old mid first s s trail trail h live k in
-    let d = w start first below a.again in
-    record { next = d.next; more = d.more; put = d.put ∙ ap (λ (xs : List Tree). xs ++ d.more) a.found; settled = d.settled }
-settles_before old mid new s t trail after live k Refused w = kept_both old mid new s s t trail trail after k w
-settles_before old mid new s t trail after live k Nothing w = kept_both old mid new s s t trail trail after k w
-settles_before old mid new s t trail after live k (Passed which) w = (
-  kept_both old mid new s s t trail trail after k w.0,
-  λ start first below h.
-      let a = found_again start old mid first s s trail trail h live k in
+pub settles_before : (old mid new : Work) (s t : Sequence) → s.game.root.0 < length old.pool.trees → IsKept old mid s s → (tried : Tried) → SettlesOne mid new s t tried → SettlesOne old new s t tried
+unfolding more_before
+settles_before old mid new s t live k (Accepted step moved) w = (
+  w.0,
+  λ start first below h. (
+      let a = found_again start old mid first s s h live k in
       let d = w.1 start first below a.again in
-      record { step = d.step; settling = d.settling; ends = ends_before start old mid new first s s trail trail h live k d.step (status.Limit which) a.again a.found a.proof d.ends },
+      record { more = more_before start old mid new first s s t h a.again step.0 a.found a.proof a.tables d.more; settling = d.settling }
+      ),
 )
-
--- try after try
-
-pub settles_none : (w : Work) (s : Sequence) (trail : List Entry) → SettlesAll w w s s trail trail None
-settles_none w s trail start first below h = record { next = h; more = []; put = sym (append-nil h.found); settled = refl }
+settles_before old mid new s t live k Refused w = kept_both old mid new s s t k w
+settles_before old mid new s t live k Nothing w = kept_both old mid new s s t k w
+settles_before old mid new s t live k (Passed which) w = (
+  kept_both old mid new s s t k w.0,
+  λ start first below h. (
+      let a = found_again start old mid first s s h live k in
+      let d = w.1 start first below a.again in
+      record { step = d.step; settling = d.settling; ends = ends_before start old mid new first s s h live k d.step (status.Limit which) a.again a.found a.proof d.ends }
+      ),
+)
 
 all_both : (p : Tree → Bool) (xs ys : List Tree) → list_all p xs ≡ true → list_all p ys ≡ true → list_all p (xs ++ ys) ≡ true
 all_both p [] ys e f = f
 all_both p (x ∷ xs) ys e f = let o = and_parts (p x) (list_all p xs) e in ap₂ ◌&&◌ o.0 (all_both p xs ys o.1 f)
 
-settled_both : (start mid new : Work) (first : Tree) (found : List Tree) (s t : Sequence) (trail after : List Entry) (w : IsSettled start mid first found s trail) → IsSettled start new first w.next.found t after → IsSettled start new first found t after
-settled_both start mid new first found s t trail after w d = record {
-  next = d.next;
-  more = w.more ++ d.more;
-  put = d.put ∙ (ap (λ (xs : List Tree). xs ++ d.more) w.put ∙ append_assoc found w.more d.more);
-  settled = all_both settles w.more d.more w.settled d.settled;
-}
+-- steps stand behind others, and the lines of all were put
 
-settled_on : (start mid new : Work) (first : Tree) (found : List Tree) (s t : Sequence) (trail after : List Entry) → s.game.root.0 < length mid.pool.trees → IsSettled start mid first found s trail → IsKept mid new s t trail after → IsSettled start new first found t after
-settled_on start mid new first found s t trail after live w k =
-    let a = found_again start mid new first s t trail after w.next live k in
-    record { next = a.again; more = w.more; put = a.found ∙ w.put; settled = w.settled }
+module _ (start old mid : Work) (first : Tree) (s t : Sequence) (h : HasFound false start old first s) (xs : List Tree) (t0 t1 : Option (List ℕ)) (f0 f1 : ℕ) (st0 st1 : Stream) (w : GoesOn start old mid first s t h xs (λ l m. PutsOn t0 t1 f0 f1 l m st0 st1)) where
+  -- memory runs out behind them
+  pub goes_broken : (new : Work) → HasGrown mid new → IsReached false start new first (λ c. PutsOn t0 t1 f0 f1 (lines_in start first (course_of h.gone)) (lines_in start first c) st0 st1)
+  goes_broken new g = reached_so_far start mid first t w.next.gone new (λ c. PutsOn t0 t1 f0 f1 (lines_in start first (course_of h.gone)) (lines_in start first c) st0 st1) g w.puts
 
--- what a search of settling steps goes on with, and how it ends
+  -- nothing more is taken
+  unfoldable pub goes_kept : (new : Work) (u : Sequence) → IsKept mid new t u → GoesOn start old new first s u h xs (λ l m. PutsOn t0 t1 f0 f1 l m st0 st1)
+  goes_kept new u k =
+      let a = found_again start mid new first t u w.next w.again.stands.live k in
+      record {
+        next = a.again;
+        put = a.found ∙ w.put;
+        again = may_again mid new t u w.again k;
+        puts = subst (λ m. PutsOn t0 t1 f0 f1 (lines_in start first (course_of h.gone)) m st0 st1) (lines_same start first (course_of w.next.gone) (course_of a.again.gone) a.proof a.tables) w.puts;
+      }
 
-pub settles_on : (old mid new : Work) (s0 s t : Sequence) (trail0 trail after : List Entry) → s.game.root.0 < length mid.pool.trees → (tried : Tried) → goes_on_behind tried ≡ true → SettlesAll old mid s0 s trail0 trail None → SettlesOne mid new s t trail after tried → SettlesAll old new s0 t trail0 after None
-settles_on old mid new s0 s t trail0 trail after live (Accepted moved) g w d start first below h =
-    let so_far = w start first below h in
-    settled_both start mid new first h.found s t trail after so_far (d start first below so_far.next)
-settles_on old mid new s0 s t trail0 trail after live Refused g w d start first below h =
-    settled_on start mid new first h.found s t trail after live (w start first below h) d
-settles_on old mid new s0 s t trail0 trail after live Nothing g w d start first below h = absurd (cc)
-settles_on old mid new s0 s t trail0 trail after live (Passed which) g w d start first below h = absurd (cc)
+  module _ (mark : ℕ) (reach : length start.pool.trees ≤ mark) (new : Work) (t2 : Option (List ℕ)) (f2 : ℕ) (st2 : Stream) where
+    -- a step more is taken, and games are given back
+    pub goes_more : (next : Work) (u v : Sequence) (step : Step) (moved : Bool) (m : IsMore false start mid next first t u w.next step.0) → IsGivenBack mark next new u v → MayTry new v → PutsBehind (Accepted step moved) next u t1 t2 f1 f2 st1 st2 → GoesOn start old new first s v h (xs ++ m.step.step ∷ []) (λ l n. PutsOn t0 t2 f0 f2 l n st0 st2)
+    goes_more next u v step moved m k may p =
+        let b = found_back mark start next new first u v m.next reach k in
+        record {
+          next = b.again;
+          put = b.found ∙ (m.put ∙ (ap (λ (zs : List Tree). zs ++ m.step.step ∷ []) w.put ∙ append_assoc h.found xs (m.step.step ∷ [])));
+          again = may;
+          puts = puts_leg t0 t1 t2 f0 f1 f2 (lines_in start first (course_of h.gone)) (lines_in start first (course_of w.next.gone)) (lines_in start first (course_of b.again.gone)) (leg_of m.step next.names) st0 st1 st2
+              (lines_put start first (course_of w.next.gone) (course_of b.again.gone) m.step next.names (tables_many start mid first t w.next.gone) (b.proof ∙ m.proof) (b.tables ∙ m.tables)) w.puts (p (leg_of m.step next.names) (leg_found start mid next first t u w.next step m));
+        }
 
-settles_end : (old mid new : Work) (s0 s t : Sequence) (trail0 trail after : List Entry) (which : Which) → s.game.root.0 < length mid.pool.trees → SettlesAll old mid s0 s trail0 trail None → SettlesOne mid new s t trail after (Passed which) → SettlesAll old new s0 t trail0 after (Some (status.Limit which))
-unfolding settled_on
-settles_end old mid new s0 s t trail0 trail after which live w d start first below h =
-    let so_far = w start first below h in
-    let e = d.1 start first below so_far.next in
-    let a = found_again start mid new first s t trail after so_far.next live d.0 in
-    (settled_on start mid new first h.found s t trail after live so_far d.0, record { step = e.step; settling = e.settling; ends = ends_behind start mid new new first s t trail after so_far.next live d.0 e.step (status.Limit which) a.again a.found a.proof e.ends })
+    -- and where none was taken
+    pub goes_back : (u : Sequence) → IsGivenBack mark mid new t u → MayTry new u → PutsBehind Refused mid t t1 t2 f1 f2 st1 st2 → GoesOn start old new first s u h xs (λ l m. PutsOn t0 t2 f0 f2 l m st0 st2)
+    goes_back u k may p =
+        let b = found_back mark start mid new first t u w.next reach k in
+        record {
+          next = b.again;
+          put = b.found ∙ w.put;
+          again = may;
+          puts = puts_nothing t0 t1 t2 f0 f1 f2 (lines_in start first (course_of h.gone)) (lines_in start first (course_of w.next.gone)) (lines_in start first (course_of b.again.gone)) st0 st1 st2 (lines_same start first (course_of w.next.gone) (course_of b.again.gone) b.proof b.tables) w.puts p;
+        }
 
-pub settles_last : (old mid new : Work) (s0 s t : Sequence) (trail0 trail after : List Entry) → s.game.root.0 < length mid.pool.trees → (tried : Tried) → goes_on_behind tried ≡ false → SettlesAll old mid s0 s trail0 trail None → SettlesOne mid new s t trail after tried → SettlesAll old new s0 t trail0 after (ended_by tried)
-settles_last old mid new s0 s t trail0 trail after live (Accepted moved) g w d = absurd (cc)
-settles_last old mid new s0 s t trail0 trail after live Refused g w d = absurd (cc)
-settles_last old mid new s0 s t trail0 trail after live Nothing g w d = λ start first below h. settled_on start mid new first h.found s t trail after live (w start first below h) d
-settles_last old mid new s0 s t trail0 trail after live (Passed which) g w d = settles_end old mid new s0 s t trail0 trail after which live w d
+    -- memory runs out when its lines are put
+    pub goes_cut : (next : Work) (u : Sequence) (step : Step) (moved : Bool) (m : IsMore false start mid next first t u w.next step.0) → StaysUpTo mark next.pool new.pool → new.names ≡ next.names → new.decls ≡ next.decls → CutsBehind (Accepted step moved) next u t1 t2 f1 f2 st1 st2
+        → IsReached false start new first (λ c. PutsOn t0 t2 f0 f2 (lines_in start first (course_of h.gone)) (lines_in start first c) st0 st2)
+    goes_cut next u step moved m stays names decls p =
+        let g = m.next.gone in
+        reached_cut start new first (course_of w.next.gone) (course_of g) (course_is start mid first t w.next.gone) (course_is start next first u g) (grows_kept mark start.pool next.pool new.pool g.grows reach stays)
+        (ap (take (length start.names)) names ∙ g.names) (decls ∙ g.decls) (leg_of m.step next.names) t0 t1 t2 f0 f1 f2 (lines_in start first (course_of h.gone)) st0 st1 st2
+        (lines_put start first (course_of w.next.gone) (course_of g) m.step next.names (tables_many start mid first t w.next.gone) m.proof m.tables) w.puts (p (leg_of m.step next.names) (leg_found start mid next first t u w.next step m))
+
+-- no step stands behind them yet
+unfoldable pub goes_none : (start w : Work) (first : Tree) (s : Sequence) (h : HasFound false start w first s) (taken : Option (List ℕ)) (faults : ℕ) (stream : Stream) → MayTry w s → GoesOn start w w first s s h [] (λ l m. PutsOn taken taken faults faults l m stream stream)
+goes_none start w first s h taken faults stream may = record { next = h; put = sym (append-nil h.found); again = may; puts = λ shows before old p. p }
+
+-- try after try
+
+module _ (mark : ℕ) (fn now mid : Work) (s0 s t : Sequence) (t0 t1 : Option (List ℕ)) (f0 f1 : ℕ) (st0 st1 : Stream) (far : SettlesAll mark fn now s0 s (λ l m. PutsOn t0 t1 f0 f1 l m st0 st1) None) where
+  -- memory runs out in a try
+  pub settles_broken : HasGrown now mid → BreaksOff mark fn mid s0 (λ l m. PutsOn t0 t1 f0 f1 l m st0 st1)
+  settles_broken g start first below reach h =
+      let w = far start first below reach h in
+      goes_broken start fn now first s0 s h w.more t0 t1 f0 f1 st0 st1 w.on mid g
+
+  -- no more is tried
+  pub settles_last : (tried : Tried) → goes_on_behind tried ≡ false → SettlesOne now mid s t tried → SettlesAll mark fn mid s0 t (λ l m. PutsOn t0 t1 f0 f1 l m st0 st1) (ended_by tried)
+  unfolding goes_kept
+  settles_last (Accepted step moved) g d = absurd (cc)
+  settles_last Refused g d = absurd (cc)
+  settles_last Nothing g d = λ start first below reach h. (
+      let w = far start first below reach h in
+      record { more = w.more; on = goes_kept start fn now first s0 s h w.more t0 t1 f0 f1 st0 st1 w.on mid t d; settled = w.settled; ended = tt }
+      )
+  settles_last (Passed which) g d = λ start first below reach h. (
+      let w = far start first below reach h in
+      let live = w.on.again.stands.live in
+      let a = found_again start now mid first s t w.on.next live d.0 in
+      let e = d.1 start first below w.on.next in
+      record {
+        more = w.more;
+        on = goes_kept start fn now first s0 s h w.more t0 t1 f0 f1 st0 st1 w.on mid t d.0;
+        settled = w.settled;
+        ended = record { step = e.step; settling = e.settling; ends = ends_behind start now mid mid first s t w.on.next live d.0 e.step (status.Limit which) a.again a.found a.proof e.ends };
+      }
+      )
+
+  module _ (new : Work) (t2 : Option (List ℕ)) (f2 : ℕ) (st2 : Stream) where
+    -- another one is
+    pub settles_more : (u : Sequence) (tried : Tried) → goes_on_behind tried ≡ true → SettlesOne now mid s t tried → IsGivenBack mark mid new t u → MayTry new u → PutsBehind tried mid t t1 t2 f1 f2 st1 st2 → SettlesAll mark fn new s0 u (λ l m. PutsOn t0 t2 f0 f2 l m st0 st2) None
+    settles_more u (Accepted step moved) g d k may p start first below reach h =
+        let w = far start first below reach h in
+        let one = d.1 start first below w.on.next in
+        record {
+          more = w.more ++ one.more.step.step ∷ [];
+          on = goes_more start fn now first s0 s h w.more t0 t1 f0 f1 st0 st1 w.on mark reach new t2 f2 st2 mid t u step moved one.more k may p;
+          settled = all_both settles w.more (one.more.step.step ∷ []) w.settled (ap (λ (b : Bool). b && true) one.settling);
+          ended = tt;
+        }
+    settles_more u Refused g d k may p start first below reach h =
+        let w = far start first below reach h in
+        let a = goes_kept start fn now first s0 s h w.more t0 t1 f0 f1 st0 st1 w.on mid t d in
+        record { more = w.more; on = goes_back start fn mid first s0 t h w.more t0 t1 f0 f1 st0 st1 a mark reach new t2 f2 st2 u k may p; settled = w.settled; ended = tt }
+    settles_more u Nothing g d k may p start first below reach h = absurd (cc)
+    settles_more u (Passed which) g d k may p start first below reach h = absurd (cc)
+
+    -- memory runs out behind it
+    pub settles_cut : (tried : Tried) → goes_on_behind tried ≡ true → SettlesOne now mid s t tried → StaysUpTo mark mid.pool new.pool → new.names ≡ mid.names → new.decls ≡ mid.decls → CutsBehind tried mid t t1 t2 f1 f2 st1 st2 → BreaksOff mark fn new s0 (λ l m. PutsOn t0 t2 f0 f2 l m st0 st2)
+    settles_cut (Accepted step moved) g d stays names decls p start first below reach h =
+        let w = far start first below reach h in
+        let one = d.1 start first below w.on.next in
+        goes_cut start fn now first s0 s h w.more t0 t1 f0 f1 st0 st1 w.on mark reach new t2 f2 st2 mid t step moved one.more stays names decls p
+    settles_cut Refused g d stays names decls p start first below reach h = absurd p
+    settles_cut Nothing g d stays names decls p start first below reach h = absurd p
+    settles_cut (Passed which) g d stays names decls p start first below reach h = absurd p
+
+pub settles_none : (mark : ℕ) (w : Work) (s : Sequence) (taken : Option (List ℕ)) (faults : ℕ) (stream : Stream) → MayTry w s → SettlesAll mark w w s s (λ l m. PutsOn taken taken faults faults l m stream stream) None
+settles_none mark w s taken faults stream may start first below reach h = record { more = []; on = goes_none start w first s h taken faults stream may; settled = refl; ended = tt }
+
+-- a step of a script, which may be the word
+
+pub advances_word : {E : Type 0} (mark : ℕ) (old new : Work) (x : Tree) (s t : Sequence) (Puts : Lines → Lines → Type 0) (r : Result (Option Status) E) → is_word x ≡ true → IfOk r (SettlesAll mark old new s t Puts) → IfOk r (Advances mark old new x s t Puts)
+advances_word mark old new x s t Puts (Ok o) e w = λ start first below reach h. subst (λ b. AdvancesBy b start old new first s t h x Puts o) (sym e) (w start first below reach h)
+advances_word mark old new x s t Puts (Err f) e w = tt
+
+module _ (mark : ℕ) (old mid : Work) (s t : Sequence) (x : Tree) (e : is_word x ≡ false) (may : MayTry old s) (t1 : Option (List ℕ)) (f1 : ℕ) (st1 : Stream) where
+  pub advances_broken : HasGrown old mid → BreaksOff mark old mid s (λ l m. PutsOn t1 t1 f1 f1 l m st1 st1)
+  advances_broken g start first below reach h = goes_broken start old old first s s h [] t1 t1 f1 f1 st1 st1 (goes_none start old first s h t1 f1 st1 may) mid g
+
+  pub advances_ends : (step : Step) (end : Status) → TakesOne old mid step.0 x s t (Some end) → Advances mark old mid x s t (λ l m. PutsOn t1 t1 f1 f1 l m st1 st1) (Some end)
+  unfolding goes_kept goes_none
+  advances_ends step end w = λ start first below reach h. (
+      let a = found_again start old mid first s t h may.stands.live w.0 in
+      subst (λ b. AdvancesBy b start old mid first s t h x (λ l m. PutsOn t1 t1 f1 f1 l m st1 st1) (Some end)) (sym e)
+      (goes_kept start old old first s s h [] t1 t1 f1 f1 st1 st1 (goes_none start old first s h t1 f1 st1 may) mid t w.0, ends_behind start old mid mid first s t h may.stands.live w.0 x end a.again a.found a.proof (w.1 start first below h))
+      )
+
+  module _ (new : Work) (t2 : Option (List ℕ)) (f2 : ℕ) (st2 : Stream) (step : Step) (w : TakesOne old mid step.0 x s t None) where
+    pub advances_takes : (u : Sequence) → IsGivenBack mark mid new t u → MayTry new u → PutsBehind (Accepted step false) mid t t1 t2 f1 f2 st1 st2 → Advances mark old new x s u (λ l m. PutsOn t1 t2 f1 f2 l m st1 st2) None
+    unfolding goes_none
+    advances_takes u k again p = λ start first below reach h. (
+        let d = w.1 start first below h in
+        let a = goes_more start old old first s s h [] t1 t1 f1 f1 st1 st1 (goes_none start old first s h t1 f1 st1 may) mark reach new t2 f2 st2 mid t u step false d.more k again p in
+        subst (λ b. AdvancesBy b start old new first s u h x (λ l m. PutsOn t1 t2 f1 f2 l m st1 st2) None) (sym e)
+        (subst (λ y. GoesOn start old new first s u h (y ∷ []) (λ l m. PutsOn t1 t2 f1 f2 l m st1 st2)) d.taken a)
+        )
+
+    pub advances_cut : StaysUpTo mark mid.pool new.pool → new.names ≡ mid.names → new.decls ≡ mid.decls → CutsBehind (Accepted step false) mid t t1 t2 f1 f2 st1 st2 → BreaksOff mark old new s (λ l m. PutsOn t1 t2 f1 f2 l m st1 st2)
+    unfolding goes_none
+    advances_cut stays names decls p start first below reach h =
+        let d = w.1 start first below h in
+        goes_cut start old old first s s h [] t1 t1 f1 f1 st1 st1 (goes_none start old first s h t1 f1 st1 may) mark reach new t2 f2 st2 mid t step false d.more stays names decls p
 
 -- a script is followed, step by step
 
-pub fills_none : (w : Work) (first : Tree) (s : Sequence) (trail : List Entry) → trail ≡ [] → s.steps ≡ 0 → s.sum ≡ no_sums → s.closed ≡ [] → game_in w.pool.trees s ≡ first → IsFilling w w first [] s trail
-unfolding found_none
-fills_none w first s trail e n m k g = record { found = found_none w first s trail e n m k g; fills = nothing }
+pub filling_none : (w : Work) (first : Tree) (s : Sequence) (taken : Option (List ℕ)) (faults : ℕ) (stream : Stream) → s.steps ≡ 0 → s.sum ≡ no_sums → s.closed ≡ [] → game_in w.pool.trees s ≡ first → IsFilling w w first [] s (PutsCourse taken taken faults faults w first stream stream)
+filling_none w first s taken faults stream n m k g =
+    let a = found_none {free = false} w first s n m k g in
+    record {
+      found = a.again;
+      fills = subst (Fills []) (sym a.found) nothing;
+      puts = subst (λ l. PutsOn taken taken faults faults (lines_in w first (course_at first)) l stream stream) (lines_same w first (course_at first) (course_of a.again.gone) a.proof a.tables) (λ shows before old p. p);
+    }
 
-pub fills_next : (start old new : Work) (first : Tree) → All (IsBelow (length start.pool.trees)) start.decls.list → (front : List Tree) (x : Tree) (s t : Sequence) (trail after : List Entry) → IsFilling start old first front s trail → (b : Bool) → is_word x ≡ b → AdvancesBy b old new x s t trail after None → IsFilling start new first (front ++ x ∷ []) t after
-fills_next start old new first below front x s t trail after h true e w =
-    let d = w start first below h.found in
-    record { found = d.next; fills = subst (Fills (front ++ x ∷ [])) (sym d.put) (fills_both front (x ∷ []) h.found.found d.more h.fills (fills_found x d.more e d.settled)) }
-fills_next start old new first below front x s t trail after h false e w =
-    let d = w start first below h.found in
-    record { found = d.next; fills = subst (Fills (front ++ x ∷ [])) (sym d.put) (fills_both front (x ∷ []) h.found.found (x ∷ []) h.fills (fills_one x e)) }
+module _ (start old new : Work) (first : Tree) (front : List Tree) (x : Tree) (s t : Sequence) (t0 t1 t2 : Option (List ℕ)) (f0 f1 f2 : ℕ) (st0 st1 st2 : Stream) (h : IsFilling start old first front s (PutsCourse t0 t1 f0 f1 start first st0 st1)) where
+  abbrev Puts : Lines → Lines → Type 0
+  Puts l m = PutsOn t1 t2 f1 f2 l m st1 st2
 
--- what is left by a script that was followed
+  puts_on : (c : Course) → Puts (lines_in start first (course_of h.found.gone)) (lines_in start first c) → PutsCourse t0 t2 f0 f2 start first st0 st2 c
+  puts_on c p = puts_then t0 t1 t2 f0 f1 f2 (lines_in start first (course_at first)) (lines_in start first (course_of h.found.gone)) (lines_in start first c) st0 st1 st2 h.puts p
 
-abbrev asked : Work → List Tree
-asked w = map (λ n. tree_at w.pool.trees (Some n)) (queries w.decls.list)
-
-module _ (start now : Work) (first : Tree) (s : Sequence) (trail : List Entry) (h : HasFound false start now first s trail) (w : Walk) (put : w.trail.items ≡ trail) (said : w.verdicts.items ≡ verdicts_by (sum_in s.closed) 1 (queries now.decls.list)) where
-  abbrev ds : List Declaration
-  ds = declarations start.pool.trees start.decls.list
-
-  left_by : (script steps : List Tree) → Fills script steps → IsWalk (length now.pool.trees) ds start.decls.own first steps (asked start) now.pool.trees w → IsFilledWalk start now first script w
-  left_by script steps f i = record {
-    steps = steps;
-    fills = f;
-    walk = i;
-    drawn = subst (λ (es : List Entry). DrawsAlong false ds (known_to start.decls.own) start.decls.own first (map led (map (entry_in now.pool.trees) es)) start.names now.names) (sym put) h.drawn;
-    grows = h.grows;
-    names = h.names;
-    decls = h.decls;
+  pub filling_more : (b : Bool) → is_word x ≡ b → AdvancesBy b start old new first s t h.found x Puts None → IsFilling start new first (front ++ x ∷ []) t (PutsCourse t0 t2 f0 f2 start first st0 st2)
+  filling_more true e d = record {
+    found = d.on.next;
+    fills = subst (Fills (front ++ x ∷ [])) (sym d.on.put) (fills_both front (x ∷ []) h.found.found d.more h.fills (fills_found x d.more e d.settled));
+    puts = puts_on (course_of d.on.next.gone) d.on.puts;
+  }
+  filling_more false e d = record {
+    found = d.next;
+    fills = subst (Fills (front ++ x ∷ [])) (sym d.put) (fills_both front (x ∷ []) h.found.found (x ∷ []) h.fills (fills_one x e));
+    puts = puts_on (course_of d.next.gone) d.puts;
   }
 
-  told : w.verdicts.items ≡ verdicts_by (sum_in s.closed) 1 (asked start)
-  told = said ∙ asked_by start now.decls h.decls (sum_in s.closed)
+  -- memory runs out
+  pub filling_broken : (left : List Tree) (w : Walk) → IsReached false start new first (λ c. Puts (lines_in start first (course_of h.found.gone)) (lines_in start first c)) → w.status ≡ status.Memory → w.verdicts.items ≡ [] → IsFilledWalk start new first (front ++ left) (asked start) (PutsCourse t0 t2 f0 f2 start first st0 st2) w
+  filling_broken left w r a b =
+      let rest = rest_of (front ++ left) in
+      record {
+        steps = rest.steps;
+        fills = rest.fills;
+        walk = walk_spent (length new.pool.trees) start new first rest.steps (asked start) (PutsCourse t0 t2 f0 f2 start first st0 st2) w
+            (record { course = r.course; is = r.is; grows = r.grows; names = r.names; decls = r.decls; puts = puts_on r.course r.puts }) a b;
+      }
 
-  -- all steps were taken
-  pub filled_all : (script : List Tree) → Fills script h.found → w.status ≡ ended_with (first_unclosed (numbers_of s.closed) (length w.verdicts.items)) → IsFilledWalk start now first script w
-  filled_all script f e = left_by script h.found f (walk_ends (length now.pool.trees) ds start.decls.own first now.pool.trees s trail h.found h.followed h.found (asked start) w refl put told e)
+  -- the next step, of the script or found in the place of the word, ends the run
+  filled_so_far : (script left : List Tree) (step : Tree) (end : Status) (w : Walk) (i : HasFound false start new first t) → Fills script (i.found ++ step ∷ left) → EndsNext start new new first t i step end → PutsCourse t0 t2 f0 f2 start first st0 st2 (course_of i.gone) → IsStopped (sum_in t.closed) (queries new.decls.list) end w
+      → IsFilledWalk start new first script (asked start) (PutsCourse t0 t2 f0 f2 start first st0 st2) w
+  filled_so_far script left step end w i f e p v =
+      let ds : List Declaration = declarations start.pool.trees start.decls.list in
+      let own : ℕ → Bool = known_to start.decls.own in
+      let wide = stops_wider (length new.pool.trees) (length new.pool.trees + nodes_along ds own first i.gone.followed.proof) (length i.found) (scene ds own (game_in new.pool.trees t)) (closed_by i.gone.followed.proof) step end (omega arith) e in
+      let here = subst (λ n. Stops (length new.pool.trees + nodes_along ds own first i.gone.followed.proof) n (scene ds own (game_in new.pool.trees t)) (closed_by i.gone.followed.proof) step end) (sym (steps_counted start new first t i)) wide in
+      record { steps = i.found ++ step ∷ left; fills = f; walk = walk_stops start new first i.found t i.gone (PutsCourse t0 t2 f0 f2 start first st0 st2) p w (i.found ++ step ∷ left) step left end refl here v }
 
-  -- the next one ends the run
-  pub filled_so_far : (script left : List Tree) (step : Tree) → Fills script (h.found ++ step ∷ left) → EndsNext start now now first s trail h step w.status → IsFilledWalk start now first script w
-  filled_so_far script left step f e =
-      let wide = stops_wider (length now.pool.trees) (length now.pool.trees + nodes_along ds (known_to start.decls.own) first h.followed.proof) (length h.found) (scene ds (known_to start.decls.own) (game_in now.pool.trees s)) (closed_by h.followed.proof) step w.status (omega arith) e in
-      let here = subst (λ n. Stops (length now.pool.trees + nodes_along ds (known_to start.decls.own) first h.followed.proof) n (scene ds (known_to start.decls.own) (game_in now.pool.trees s)) (closed_by h.followed.proof) step w.status) (sym (steps_counted start now first s trail h)) wide in
-      left_by script (h.found ++ step ∷ left) f (walk_stops (length now.pool.trees) ds start.decls.own first now.pool.trees s trail h.found h.followed (h.found ++ step ∷ left) (asked start) step left w refl put told here)
-
--- the step that ends it is one of the script, or settles the game in the place of the word
-pub fills_end : (start old new : Work) (first : Tree) → All (IsBelow (length start.pool.trees)) start.decls.list → (front : List Tree) (x : Tree) (left : List Tree) (s t : Sequence) (trail after : List Entry) → s.game.root.0 < length old.pool.trees → IsFilling start old first front s trail → (w : Walk) → w.trail.items ≡ after → w.verdicts.items ≡ verdicts_by (sum_in t.closed) 1 (queries new.decls.list) → (b : Bool) → is_word x ≡ b → AdvancesBy b old new x s t trail after (Some w.status) → IsFilledWalk start new first (front ++ x ∷ left) w
-fills_end start old new first below front x left s t trail after live h w put said true e d =
-    let p = d start first below h.found in
-    let rest = rest_of left in
-    let more : List Tree = p.0.more ++ p.1.step ∷ [] in
-    let one = fills_found x more e (all_both settles p.0.more (p.1.step ∷ []) p.0.settled (ap (λ (c : Bool). c && true) p.1.settling)) in
-    let all = fills_both front (x ∷ left) h.found.found (more ++ rest.steps) h.fills (fills_both (x ∷ []) left more rest.steps one rest.fills) in
-    let same : h.found.found ++ (more ++ rest.steps) ≡ p.0.next.found ++ p.1.step ∷ rest.steps =
-    ap (λ (xs : List Tree). h.found.found ++ xs) (append_assoc p.0.more (p.1.step ∷ []) rest.steps)
-    ∙ (sym (append_assoc h.found.found p.0.more (p.1.step ∷ rest.steps)) ∙ ap (λ (xs : List Tree). xs ++ p.1.step ∷ rest.steps) (sym p.0.put)) in
-    filled_so_far start new first t after p.0.next w put said (front ++ x ∷ left) rest.steps p.1.step (subst (Fills (front ++ x ∷ left)) same all) p.1.ends
-fills_end start old new first below front x left s t trail after live h w put said false e d =
-    let rest = rest_of left in
-    let a = found_again start old new first s t trail after h.found live d.0 in
-    let all = fills_both front (x ∷ left) h.found.found (x ∷ rest.steps) h.fills (itself x left rest.steps e rest.fills) in
-    filled_so_far start new first t after a.again w put said (front ++ x ∷ left) rest.steps x (subst (λ (xs : List Tree). Fills (front ++ x ∷ left) (xs ++ x ∷ rest.steps)) (sym a.found) all) (ends_behind start old new new first s t trail after h.found live d.0 x w.status a.again a.found a.proof (d.1 start first below h.found))
+  pub filling_ends : (left : List Tree) (end : Status) (w : Walk) (b : Bool) → is_word x ≡ b → AdvancesBy b start old new first s t h.found x Puts (Some end) → IsStopped (sum_in t.closed) (queries new.decls.list) end w
+      → IsFilledWalk start new first (front ++ x ∷ left) (asked start) (PutsCourse t0 t2 f0 f2 start first st0 st2) w
+  filling_ends left end w true e d v =
+      let rest = rest_of left in
+      let more : List Tree = d.more ++ d.ended.step ∷ [] in
+      let one = fills_found x more e (all_both settles d.more (d.ended.step ∷ []) d.settled (ap (λ (c : Bool). c && true) d.ended.settling)) in
+      let all = fills_both front (x ∷ left) h.found.found (more ++ rest.steps) h.fills (fills_both (x ∷ []) left more rest.steps one rest.fills) in
+      let same : h.found.found ++ (more ++ rest.steps) ≡ d.on.next.found ++ d.ended.step ∷ rest.steps =
+      ap (λ (xs : List Tree). h.found.found ++ xs) (append_assoc d.more (d.ended.step ∷ []) rest.steps)
+      ∙ (sym (append_assoc h.found.found d.more (d.ended.step ∷ rest.steps)) ∙ ap (λ (xs : List Tree). xs ++ d.ended.step ∷ rest.steps) (sym d.on.put)) in
+      filled_so_far (front ++ x ∷ left) rest.steps d.ended.step end w d.on.next (subst (Fills (front ++ x ∷ left)) same all) d.ended.ends (puts_on (course_of d.on.next.gone) d.on.puts) v
+  filling_ends left end w false e d v =
+      let rest = rest_of left in
+      let g = d.0 in
+      let all = fills_both front (x ∷ left) h.found.found (x ∷ rest.steps) h.fills (itself x left rest.steps e rest.fills) in
+      filled_so_far (front ++ x ∷ left) rest.steps x end w g.next (subst (λ (xs : List Tree). Fills (front ++ x ∷ left) (xs ++ x ∷ rest.steps)) (sym (g.put ∙ append-nil h.found.found)) all) d.1 (puts_on (course_of g.next.gone) g.puts) v
 
 -- step after step of a list
 
-module _ (fn now new : Work) (first : Tree) (script : List Step) (below : All (IsBelow (length fn.pool.trees)) fn.decls.list) (live : All (λ s. s.0.0 < length fn.pool.trees) script) (k : ℕ) (d : Step) (l : k < length script) (s t : Sequence) (trail after : List Entry) (h : IsFilling fn now first (trees_of fn.pool.trees (take k script)) s trail) where
+module _ (fn now new : Work) (first : Tree) (script : List Step) (live : All (λ s. s.0.0 < length fn.pool.trees) script) (k : ℕ) (d : Step) (l : k < length script) (s t : Sequence) (t0 t1 t2 : Option (List ℕ)) (f0 f1 f2 : ℕ) (st0 st1 st2 : Stream) (h : IsFilling fn now first (trees_of fn.pool.trees (take k script)) s (PutsCourse t0 t1 f0 f1 fn first st0 st1))
+    (below : All (IsBelow (length fn.pool.trees)) fn.decls.list) (mark : ℕ) (reach : length fn.pool.trees ≤ mark) where
   abbrev tree_of : Step → Tree
   tree_of x = tree_at fn.pool.trees (Some x.0)
 
   abbrev here : Tree
   here = tree_at now.pool.trees (Some (get_or script k d).0)
 
+  abbrev front : List Tree
+  front = trees_of fn.pool.trees (take k script)
+
+  abbrev left : List Tree
+  left = trees_of fn.pool.trees (drop (k + 1) script)
+
   same : here ≡ tree_of (get_or script k d)
-  same = root_grown fn.pool now.pool (get_or script k d).0 h.found.grows (live k d l)
+  same = root_grown fn.pool now.pool (get_or script k d).0 h.found.gone.grows (live k d l)
 
-  pub fills_step : Advances now new here s t trail after None → IsFilling fn new first (trees_of fn.pool.trees (take (k + 1) script)) t after
+  all : front ++ here ∷ left ≡ trees_of fn.pool.trees script
+  all = ap (λ y. front ++ y ∷ left) same ∙ sym (ap (trees_of fn.pool.trees) (split_here script k d l) ∙ map-append tree_of (take k script) (get_or script k d ∷ drop (k + 1) script))
+
+  pub fills_step : Advances mark now new here s t (λ l m. PutsOn t1 t2 f1 f2 l m st1 st2) None → IsFilling fn new first (trees_of fn.pool.trees (take (k + 1) script)) t (PutsCourse t0 t2 f0 f2 fn first st0 st2)
   fills_step w =
-      let front : List Tree = trees_of fn.pool.trees (take k script) in
-      subst (λ ts. IsFilling fn new first ts t after) (ap (λ y. front ++ y ∷ []) same ∙ sym (map_more tree_of script k d l)) (fills_next fn now new first below front here s t trail after h (is_word here) refl w)
+      subst (λ ts. IsFilling fn new first ts t (PutsCourse t0 t2 f0 f2 fn first st0 st2)) (ap (λ y. front ++ y ∷ []) same ∙ sym (map_more tree_of script k d l))
+      (filling_more fn now new first front here s t t0 t1 t2 f0 f1 f2 st0 st1 st2 h (is_word here) refl (w fn first below reach h.found))
 
-  pub fills_stop : s.game.root.0 < length now.pool.trees → (w : Walk) → w.trail.items ≡ after → w.verdicts.items ≡ verdicts_by (sum_in t.closed) 1 (queries new.decls.list) → Advances now new here s t trail after (Some w.status) → IsFilledWalk fn new first (trees_of fn.pool.trees script) w
-  fills_stop at w put said e =
-      let front : List Tree = trees_of fn.pool.trees (take k script) in
-      let left : List Tree = trees_of fn.pool.trees (drop (k + 1) script) in
-      let all = ap (trees_of fn.pool.trees) (split_here script k d l) ∙ map-append tree_of (take k script) (get_or script k d ∷ drop (k + 1) script) in
-      subst (λ ts. IsFilledWalk fn new first ts w) (ap (λ y. front ++ y ∷ left) same ∙ sym all) (fills_end fn now new first below front here left s t trail after at h w put said (is_word here) refl e)
+  pub fills_stop : (end : Status) (w : Walk) → Advances mark now new here s t (λ l m. PutsOn t1 t2 f1 f2 l m st1 st2) (Some end) → IsStopped (sum_in t.closed) (queries new.decls.list) end w → IsFilledWalk fn new first (trees_of fn.pool.trees script) (asked fn) (PutsCourse t0 t2 f0 f2 fn first st0 st2) w
+  fills_stop end w e v =
+      subst (λ ts. IsFilledWalk fn new first ts (asked fn) (PutsCourse t0 t2 f0 f2 fn first st0 st2) w) all
+      (filling_ends fn now new first front here s t t0 t1 t2 f0 f1 f2 st0 st1 st2 h left end w (is_word here) refl (e fn first below reach h.found) v)
+
+  pub fills_broken : (w : Walk) → BreaksOff mark now new s (λ l m. PutsOn t1 t2 f1 f2 l m st1 st2) → w.status ≡ status.Memory → w.verdicts.items ≡ [] → IsFilledWalk fn new first (trees_of fn.pool.trees script) (asked fn) (PutsCourse t0 t2 f0 f2 fn first st0 st2) w
+  fills_broken w r a b =
+      subst (λ ts. IsFilledWalk fn new first ts (asked fn) (PutsCourse t0 t2 f0 f2 fn first st0 st2) w) all
+      (filling_broken fn now new first front here s t t0 t1 t2 f0 f1 f2 st0 st1 st2 h (here ∷ left) w (r fn first below reach h.found) a b)
+
+-- all steps were taken
+pub filled_all : (start now : Work) (first : Tree) (s : Sequence) (so_far script : List Tree) (Puts : Course → Type 0) (h : IsFilling start now first so_far s Puts) (w : Walk) → so_far ≡ script → IsStopped (sum_in s.closed) (queries now.decls.list) (ended_with (first_unclosed (numbers_of s.closed) (length (queries now.decls.list)))) w
+    → IsFilledWalk start now first script (asked start) Puts w
+filled_all start now first s so_far script Puts h w e v = record {
+  steps = h.found.found;
+  fills = subst (λ ts. Fills ts h.found.found) e h.fills;
+  walk = walk_ends start now first h.found.found s h.found.gone Puts h.puts w h.found.found refl v;
+}
 
 -- whether a script has the word or not
 
-pub block_filled : (start now : Work) (first : Tree) (script : List Tree) (w : Walk) → has_word script ≡ true → IsFilledWalk start now first script w → IsBlockWalk (length start.pool.trees) (declarations start.pool.trees start.decls.list) start.decls.own first script (asked start) now.pool.trees w
-block_filled start now first script w e h = record {
+pub block_filled : (start now : Work) (first : Tree) (script : List Tree) (Puts : Course → Type 0) (w : Walk) → has_word script ≡ true → IsFilledWalk start now first script (asked start) Puts w → IsBlockWalk (length start.pool.trees) start now first script (asked start) Puts w
+block_filled start now first script Puts w e h = record {
   steps = h.steps;
   room = length now.pool.trees;
   stands = subst (λ b. StandsBy b (length start.pool.trees) script h.steps (length now.pool.trees)) (sym e) h.fills;
   walk = h.walk;
 }
 
-pub block_plain : (nodes : ℕ) (declared : List Declaration) (own : ℕ) (first : Tree) (script queries : List Tree) (trees : List KindTree) (w : Walk) → has_word script ≡ false → IsWalk nodes declared own first script queries trees w → IsBlockWalk nodes declared own first script queries trees w
-block_plain nodes declared own first script queries trees w e h = record {
+pub block_plain : (nodes : ℕ) (start now : Work) (first : Tree) (script queries : List Tree) (Puts : Course → Type 0) (w : Walk) → has_word script ≡ false → IsWalk nodes start now first script queries Puts w → IsBlockWalk nodes start now first script queries Puts w
+block_plain nodes start now first script queries Puts w e h = record {
   steps = script;
   room = nodes;
   stands = subst (λ b. StandsBy b nodes script script nodes) (sym e) (refl, refl);
   walk = h;
 }
-
--- What a file holds, with a trail of what its script leads to, and the verdicts.
-abbrev pub HasTrail : (end : Status) → List Told → List Verdict → (nodes : ℕ) → (c : Content) → (queries : List Tree) → Option (List Tree) → Type 0
-HasTrail end trail vs nodes c queries None = ⊥
-HasTrail end trail vs nodes c queries (Some script) =
-    (steps : List Tree) × (room : ℕ) × StandsFor nodes script steps room × (w : Follows room c.declarations c.own c.game steps queries end) × (trail ≡ map entry_of w.proof) × (vs ≡ verdicts_of w.proof queries)
-
--- so it is of what was walked in the pool before
-
-wide : (m n : ℕ) (declared : List Declaration) (own : ℕ) (first : Tree) (steps queries : List Tree) (end : Status) → m ≤ n → (w : Follows m declared own first steps queries end) → (v : Follows n declared own first steps queries end) × (v.proof ≡ w.proof)
-wide m n declared own first steps queries end l w = (
-  record {
-    proof = w.proof;
-    left = w.left;
-    split = w.split;
-    last = w.last;
-    leads = w.leads;
-    ends = ends_wider (m + nodes_along declared (known_to own) first w.proof) (n + nodes_along declared (known_to own) first w.proof) (length w.proof) (scene declared (known_to own) w.last) (closed_by w.proof) queries w.left end (omega arith) w.ends;
-  },
-  refl,
-)
-
-abbrev TrailBy : (word : Bool) (nodes : ℕ) (c : Content) (script queries : List Tree) (end : Status) → List Told → List Verdict → Type 0
-TrailBy b nodes c script queries end trail vs =
-    (steps : List Tree) × (room : ℕ) × StandsBy b nodes script steps room × (w : Follows room c.declarations c.own c.game steps queries end) × (trail ≡ map entry_of w.proof) × (vs ≡ verdicts_of w.proof queries)
-
-trail_by : (b : Bool) (before room : ℕ) (c : Content) (script steps queries : List Tree) (trees : List KindTree) (w : Walk) → StandsBy b before script steps room → IsWalk room c.declarations c.own c.game steps queries trees w → before ≤ content_nodes c → TrailBy b (content_nodes c) c script queries w.status (map (entry_in trees) w.trail.items) w.verdicts.items
-trail_by false before room c script steps queries trees w s h l =
-    let k = s.1 in
-    let v = wide room (content_nodes c) c.declarations c.own c.game steps queries w.status (omega arith) h.follows in
-    (steps, content_nodes c, (s.0, refl), v.0, h.trail ∙ ap (map entry_of) (sym v.1), h.verdicts ∙ ap (λ ts. verdicts_of ts queries) (sym v.1))
-trail_by true before room c script steps queries trees w s h l = (steps, room, s, h.follows, h.trail, h.verdicts)
-
-pub block_trail : (before : ℕ) (c : Content) (script queries asked : List Tree) (trees : List KindTree) (w : Walk) → IsBlockWalk before c.declarations c.own c.game script queries trees w → c.script ≡ Some script → before ≤ content_nodes c → queries ≡ asked → HasTrail w.status (map (entry_in trees) w.trail.items) w.verdicts.items (content_nodes c) c asked c.script
-block_trail before c script queries asked trees w h s l q =
-    subst (λ o. HasTrail w.status (map (entry_in trees) w.trail.items) w.verdicts.items (content_nodes c) c asked o) (sym s)
-    (subst (λ qs. HasTrail w.status (map (entry_in trees) w.trail.items) w.verdicts.items (content_nodes c) c qs (Some script)) q
-    (trail_by (has_word script) before h.room c script h.steps queries trees w h.stands h.walk l))

@@ -1,31 +1,28 @@
 -- The word `simplify` of a script. It stands for steps that settle the game: whatever such steps are found there and accepted. This
 -- profile's own.
-use Rattle.std.specs.Prelude.{◌≡◌, ℕ, Bool, true, false, List, [], ◌∷◌, ◌++◌, length, map, take, All, Option, Some, None}
+use Rattle.std.specs.Prelude.{◌≡◌, ℕ, suc, ◌<◌, ◌≤◌, Bool, true, false, List, [], ◌∷◌, ◌++◌, length, All, Option, Some, None, IfSome}
 use Rattle.std.specs.List.{list_all, list_any}
-use Rattle.cv_kernel.specs.Drawings.{DrawsAlong}
 use Rattle.cv_kernel.specs.Proofs.{closed_by}
 use Rattle.cv_kernel.specs.Sequences.{game_in}
 use Rattle.cv_kernel.specs.declared.sequence.Sequence.{Sequence}
 use Rattle.cv_parse.specs.Declaring.{IsBelow}
-use Rattle.cv_pool.specs.KindTree.{KindTree}
-use Rattle.cv_pool.specs.PoolView.{Grows}
-use Rattle.cv_report.specs.declared.report.Entry.{Entry}
+use Rattle.cv_pool.specs.declared.node.NodeId.{NodeId}
+use Rattle.cv_report.specs.Lines.{Lines}
 use Rattle.cv_report.specs.declared.report.Status.{Status}
 use Rattle.cv_report.specs.declared.report.Status.TheVariants as status
 use Rattle.cv_steps.specs.Sequences.{scene}
 use Rattle.cv_syntax.specs.declared.work.Work.{Work}
-use Rattle.cv_syntax.specs.Classes.{queries}
 use Rattle.cv_syntax.specs.Declarations.{declarations}
-use Rattle.cv_syntax.specs.PoolTrees.{tree_at}
 use Rattle.cv_syntax_trees.specs.declared.head.Head.TheVariants.{BirthdayStep, FreshStep, GuessStep, MergeStep, PruneStep, RewriteStep, SimplifyStep, UnletStep, UnnewStep}
-use Rattle.cv_syntax_trees.specs.Declarations.{Declaration}
 use Rattle.cv_syntax_trees.specs.Tree.{Tree, Node}
 use Rattle.cv_follow.specs.declared.searching.Tried.{Tried}
 use Rattle.cv_follow.specs.declared.searching.Tried.TheVariants.{Accepted, Nothing, Passed, Refused}
 use Rattle.cv_follow.specs.declared.walk.Walk.{Walk}
-use Rattle.cv_follow.specs.Scripts.{Stops, entry_in, known_to, led}
-use Rattle.cv_follow.specs.Searches.{HasFound, IsKept}
-use Rattle.cv_follow.specs.Walks.{IsWalk}
+use Rattle.cv_follow.specs.Courses.{Course, IsReached, lines_in}
+use Rattle.cv_follow.specs.Scripts.{Stops}
+use Rattle.cv_kernel.specs.Followed.{known_to}
+use Rattle.cv_follow.specs.Searches.{HasFound, IsKept, IsMore, MayTry}
+use Rattle.cv_follow.specs.Walks.{IsWalk, course_of}
 
 -- a step of a script is the word
 
@@ -66,102 +63,127 @@ abbrev pub StandsFor : (nodes : ℕ) → (script steps : List Tree) → (room : 
 StandsFor nodes script steps room = StandsBy (has_word script) nodes script steps room
 
 -- the steps of a script, whether it has the word or not, were followed as far as this, in a pool that had so many nodes before
-pub record IsBlockWalk (nodes : ℕ) (ds : List Declaration) (own : ℕ) (first : Tree) (script queries : List Tree) (trees : List KindTree) (w : Walk) : Type 0 where
+pub record IsBlockWalk (nodes : ℕ) (start now : Work) (first : Tree) (script queries : List Tree) (Puts : Course → Type 0) (w : Walk) : Type 0 where
   pub steps : List Tree
   pub room : ℕ
   pub stands : StandsFor nodes script steps room
-  pub walk : IsWalk room ds own first steps queries trees w
+  pub walk : IsWalk room start now first steps queries Puts w
 
--- so it is of one that has it, with what it leaves of a work
-pub record IsFilledWalk (start now : Work) (first : Tree) (script : List Tree) (w : Walk) : Type 0 where
+-- so it is of one that has it
+pub record IsFilledWalk (start now : Work) (first : Tree) (script queries : List Tree) (Puts : Course → Type 0) (w : Walk) : Type 0 where
   pub steps : List Tree
   pub fills : Fills script steps
-  pub walk : IsWalk (length now.pool.trees) (declarations start.pool.trees start.decls.list) start.decls.own first steps (map (λ n. tree_at start.pool.trees (Some n)) (queries start.decls.list)) now.pool.trees w
-  pub drawn : DrawsAlong false (declarations start.pool.trees start.decls.list) (known_to start.decls.own) start.decls.own first (map led (map (entry_in now.pool.trees) w.trail.items)) start.names now.names
-  pub grows : Grows start.pool now.pool
-  pub names : take (length start.names) now.names ≡ start.names
-  pub decls : now.decls ≡ start.decls
+  pub walk : IsWalk (length now.pool.trees) start now first steps queries Puts w
 
 -- The next step, behind those that were found, ends a run so.
-abbrev pub EndsNext : (start old new : Work) → (first : Tree) → (s : Sequence) → (trail : List Entry) → HasFound false start old first s trail → (step : Tree) → Status → Type 0
-EndsNext start old new first s trail h step end =
-    Stops (length new.pool.trees) (length h.found) (scene (declarations start.pool.trees start.decls.list) (known_to start.decls.own) (game_in old.pool.trees s)) (closed_by h.followed.proof) step end
+abbrev pub EndsNext : (start old new : Work) → (first : Tree) → (s : Sequence) → HasFound false start old first s → (step : Tree) → Status → Type 0
+EndsNext start old new first s h step end =
+    Stops (length new.pool.trees) (length h.found) (scene (declarations start.pool.trees start.decls.list) (known_to start.decls.own) (game_in old.pool.trees s)) (closed_by h.gone.followed.proof) step end
+
+-- a step was taken: it stands in the pool, and is counted
+pub record IsCounted (new : Work) (s t : Sequence) (node : NodeId) : Type 0 where
+  pub live : node.0 < length new.pool.trees
+  pub steps : t.steps ≡ suc s.steps
 
 -- a step was taken behind those that were found, or a run ends by it
 
-pub record IsTaken (start new : Work) (first step : Tree) (found : List Tree) (t : Sequence) (after : List Entry) : Type 0 where
-  pub next : HasFound false start new first t after
-  pub put : next.found ≡ found ++ step ∷ []
+pub record IsTaken (start old new : Work) (first : Tree) (s t : Sequence) (h : HasFound false start old first s) (node : NodeId) (step : Tree) : Type 0 where
+  pub more : IsMore false start old new first s t h node
+  pub taken : more.step.step ≡ step
 
-abbrev pub TakesOne : (old new : Work) → (step : Tree) → (s t : Sequence) → (trail after : List Entry) → Option Status → Type 0
-TakesOne old new step s t trail after None =
-    (start : Work) (first : Tree) → All (IsBelow (length start.pool.trees)) start.decls.list
-    → (h : HasFound false start old first s trail) → IsTaken start new first step h.found t after
-TakesOne old new step s t trail after (Some end) =
-    IsKept old new s t trail after
+abbrev pub TakesOne : (old new : Work) → (node : NodeId) → (step : Tree) → (s t : Sequence) → Option Status → Type 0
+TakesOne old new node step s t None =
+    IsCounted new s t node
     × ((start : Work) (first : Tree) → All (IsBelow (length start.pool.trees)) start.decls.list
-    → (h : HasFound false start old first s trail) → EndsNext start old new first s trail h step end)
+    → (h : HasFound false start old first s) → IsTaken start old new first s t h node step)
+TakesOne old new node step s t (Some end) =
+    IsKept old new s t
+    × ((start : Work) (first : Tree) → All (IsBelow (length start.pool.trees)) start.decls.list
+    → (h : HasFound false start old first s) → EndsNext start old new first s h step end)
 
--- steps that settle the game were found behind others
-
-pub record IsSettled (start new : Work) (first : Tree) (found : List Tree) (t : Sequence) (after : List Entry) : Type 0 where
-  pub next : HasFound false start new first t after
-  pub more : List Tree
-  pub put : next.found ≡ found ++ more
-  pub settled : list_all settles more ≡ true
-
--- the next one, which would settle it too, ends the run so
-pub record IsEnded (start old new : Work) (first : Tree) (s : Sequence) (trail : List Entry) (h : HasFound false start old first s trail) (end : Status) : Type 0 where
+-- the next one, which would settle the game, ends the run so
+pub record IsEnded (start old new : Work) (first : Tree) (s : Sequence) (h : HasFound false start old first s) (end : Status) : Type 0 where
   pub step : Tree
   pub settling : settles step ≡ true
-  pub ends : EndsNext start old new first s trail h step end
+  pub ends : EndsNext start old new first s h step end
 
--- what comes of one that is tried, and of all
+-- what comes of one that is tried
 
-abbrev pub SettlesOne : (old new : Work) → (s t : Sequence) → (trail after : List Entry) → Tried → Type 0
-SettlesOne old new s t trail after (Accepted moved) =
-    (start : Work) (first : Tree) → All (IsBelow (length start.pool.trees)) start.decls.list
-    → (h : HasFound false start old first s trail) → IsSettled start new first h.found t after
-SettlesOne old new s t trail after Refused = IsKept old new s t trail after
-SettlesOne old new s t trail after Nothing = IsKept old new s t trail after
-SettlesOne old new s t trail after (Passed which) =
-    IsKept old new s t trail after
+pub record IsSettling (start old new : Work) (first : Tree) (s t : Sequence) (h : HasFound false start old first s) (node : NodeId) : Type 0 where
+  pub more : IsMore false start old new first s t h node
+  pub settling : settles more.step.step ≡ true
+
+abbrev pub SettlesOne : (old new : Work) → (s t : Sequence) → Tried → Type 0
+SettlesOne old new s t (Accepted step moved) =
+    IsCounted new s t step.0
     × ((start : Work) (first : Tree) → All (IsBelow (length start.pool.trees)) start.decls.list
-    → (h : HasFound false start old first s trail) → IsEnded start old new first s trail h (status.Limit which))
+    → (h : HasFound false start old first s) → IsSettling start old new first s t h step.0)
+SettlesOne old new s t Refused = IsKept old new s t
+SettlesOne old new s t Nothing = IsKept old new s t
+SettlesOne old new s t (Passed which) =
+    IsKept old new s t
+    × ((start : Work) (first : Tree) → All (IsBelow (length start.pool.trees)) start.decls.list
+    → (h : HasFound false start old first s) → IsEnded start old new first s h (status.Limit which))
 
 -- whether more is tried behind a try, and how a run ends by the last one
 
 abbrev pub goes_on_behind : Tried → Bool
-goes_on_behind (Accepted moved) = true
+goes_on_behind (Accepted step moved) = true
 goes_on_behind Refused = true
 goes_on_behind Nothing = false
 goes_on_behind (Passed which) = false
 
 abbrev pub ended_by : Tried → Option Status
-ended_by (Accepted moved) = None
+ended_by (Accepted step moved) = None
 ended_by Refused = None
 ended_by Nothing = None
 ended_by (Passed which) = Some (status.Limit which)
 
-abbrev pub EndsSettled : (start new : Work) → (first : Tree) → (found : List Tree) → (t : Sequence) → (after : List Entry) → Option Status → Type 0
-EndsSettled start new first found t after None = IsSettled start new first found t after
-EndsSettled start new first found t after (Some end) = (w : IsSettled start new first found t after) × IsEnded start new new first t after w.next end
+-- Behind steps that were found stand these, and the lines of all were put; so it is of the lines of two courses.
+pub record GoesOn (start old new : Work) (first : Tree) (s t : Sequence) (h : HasFound false start old first s) (more : List Tree) (Puts : Lines → Lines → Type 0) : Type 0 where
+  pub next : HasFound false start new first t
+  pub put : next.found ≡ h.found ++ more
+  pub again : MayTry new t
+  pub puts : Puts (lines_in start first (course_of h.gone)) (lines_in start first (course_of next.gone))
 
-abbrev pub SettlesAll : (old new : Work) → (s t : Sequence) → (trail after : List Entry) → Option Status → Type 0
-SettlesAll old new s t trail after end =
-    (start : Work) (first : Tree) → All (IsBelow (length start.pool.trees)) start.decls.list
-    → (h : HasFound false start old first s trail) → EndsSettled start new first h.found t after end
+-- Steps that settle the game were found, and the next one that would settle it ends the run, if something ends it.
+pub record SettlesBehind (start old new : Work) (first : Tree) (s t : Sequence) (h : HasFound false start old first s) (Puts : Lines → Lines → Type 0) (end : Option Status) : Type 0 where
+  pub more : List Tree
+  pub on : GoesOn start old new first s t h more Puts
+  pub settled : list_all settles more ≡ true
+  pub ended : IfSome end (IsEnded start new new first t on.next)
+
+-- The step of the script was taken, or it ends the run.
+abbrev pub TakesBehind : (start old new : Work) → (first : Tree) → (s t : Sequence) → (h : HasFound false start old first s) → (step : Tree) → (Puts : Lines → Lines → Type 0) → Option Status → Type 0
+TakesBehind start old new first s t h step Puts None = GoesOn start old new first s t h (step ∷ []) Puts
+TakesBehind start old new first s t h step Puts (Some end) = (on : GoesOn start old new first s t h [] Puts) × EndsNext start new new first t on.next step end
 
 -- what comes of a step of a script, which may be the word
 
-abbrev pub AdvancesBy : (word : Bool) → (old new : Work) → (step : Tree) → (s t : Sequence) → (trail after : List Entry) → Option Status → Type 0
-AdvancesBy true old new step s t trail after end = SettlesAll old new s t trail after end
-AdvancesBy false old new step s t trail after end = TakesOne old new step s t trail after end
+abbrev pub AdvancesBy : (word : Bool) → (start old new : Work) → (first : Tree) → (s t : Sequence) → (h : HasFound false start old first s) → (step : Tree) → (Puts : Lines → Lines → Type 0) → Option Status → Type 0
+AdvancesBy true start old new first s t h step Puts end = SettlesBehind start old new first s t h Puts end
+AdvancesBy false start old new first s t h step Puts end = TakesBehind start old new first s t h step Puts end
 
-abbrev pub Advances : (old new : Work) → (step : Tree) → (s t : Sequence) → (trail after : List Entry) → Option Status → Type 0
-Advances old new step s t trail after end = AdvancesBy (is_word step) old new step s t trail after end
+-- what comes of steps that were found before, since a work that stands up to a mark
 
--- while a script is followed: the steps that were found fill its front
-pub record IsFilling (start now : Work) (first : Tree) (front : List Tree) (s : Sequence) (trail : List Entry) : Type 0 where
-  pub found : HasFound false start now first s trail
+abbrev pub FoundBefore : (mark : ℕ) → (old : Work) → (s : Sequence) → ((start : Work) → (first : Tree) → HasFound false start old first s → Type 0) → Type 0
+FoundBefore mark old s P =
+    (start : Work) (first : Tree) → All (IsBelow (length start.pool.trees)) start.decls.list → length start.pool.trees ≤ mark
+    → (h : HasFound false start old first s) → P start first h
+
+abbrev pub SettlesAll : (mark : ℕ) → (old new : Work) → (s t : Sequence) → (Puts : Lines → Lines → Type 0) → Option Status → Type 0
+SettlesAll mark old new s t Puts end = FoundBefore mark old s (λ start first h. SettlesBehind start old new first s t h Puts end)
+
+abbrev pub Advances : (mark : ℕ) → (old new : Work) → (step : Tree) → (s t : Sequence) → (Puts : Lines → Lines → Type 0) → Option Status → Type 0
+Advances mark old new step s t Puts end = FoundBefore mark old s (λ start first h. AdvancesBy (is_word step) start old new first s t h step Puts end)
+
+-- Memory ran out behind some steps more: their course was reached, and its lines were put.
+abbrev pub BreaksOff : (mark : ℕ) → (old new : Work) → (s : Sequence) → (Puts : Lines → Lines → Type 0) → Type 0
+BreaksOff mark old new s Puts =
+    FoundBefore mark old s (λ start first h. IsReached false start new first (λ c. Puts (lines_in start first (course_of h.gone)) (lines_in start first c)))
+
+-- while a script is followed: the steps that were found fill its front, and the lines of their course were put
+pub record IsFilling (start now : Work) (first : Tree) (front : List Tree) (s : Sequence) (Puts : Course → Type 0) : Type 0 where
+  pub found : HasFound false start now first s
   pub fills : Fills front found.found
+  pub puts : Puts (course_of found.gone)

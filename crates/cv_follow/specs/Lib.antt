@@ -1,3 +1,4 @@
+pub mod Courses
 pub mod Scripts
 pub mod Walks
 pub mod Searches

@@ -1,20 +1,12 @@
 -- What the steps of a proof block lead to: each is taken in the game that those before it lead to, as long as it is accepted,
 -- there are no more than 2,000, and the pool has room.
-use Rattle.std.specs.Prelude.{◌≡◌, ℕ, suc, ◌+◌, ◌<◌, ◌≤◌, List, [], ◌∷◌, ◌++◌, length, map, nat_lt, Bool, true, false, Option, Some, None, option_map}
-use Rattle.cv_bound.specs.declared.cost.Cost.{Cost}
+use Rattle.std.specs.Prelude.{◌≡◌, ℕ, suc, ◌+◌, ◌<◌, ◌≤◌, List, [], ◌∷◌, ◌++◌, length, map, Bool, true, false, Option, Some, None}
 use Rattle.cv_bound.specs.closings.Queries.{first_unclosed_from}
-use Rattle.cv_context.specs.products.Shapes.{Shape}
-use Rattle.cv_context.specs.products.ShapesInCode.{shape_in}
-use Rattle.cv_kernel.specs.Closings.{closing_in, judgement_in}
-use Rattle.cv_kernel.specs.Proofs.{IsProof, Transition, closed_by, game_behind, nodes_along, sum_of}
-use Rattle.cv_kernel.specs.Answers.{HasNoRoom}
+use Rattle.cv_kernel.specs.Followed.{LacksRoomFor, known_to}
+use Rattle.cv_kernel.specs.Proofs.{IsProof, Transition, closed_by, nodes_along, sum_of}
 use Rattle.cv_kernel.specs.Sayings.{IsSaid, Refused, TooDeep, TooLarge}
-use Rattle.cv_kernel.specs.Sequences.{needed}
-use Rattle.cv_kernel_crypto.specs.Applied as crypto
 use Rattle.cv_accept.specs.Accepted.{most_pool}
-use Rattle.cv_pool.specs.KindTree.{KindTree}
 use Rattle.cv_report.specs.declared.report.Cause.TheVariants.{StepRefused}
-use Rattle.cv_report.specs.declared.report.Entry.{Entry}
 use Rattle.cv_report.specs.declared.report.Status.{Status}
 use Rattle.cv_report.specs.declared.report.Status.TheVariants as status
 use Rattle.cv_report.specs.declared.report.Verdict.{Verdict}
@@ -22,25 +14,14 @@ use Rattle.cv_report.specs.declared.report.Verdict.TheVariants.{NotProved, Prove
 use Rattle.cv_report.specs.declared.report.Which.TheVariants.{Depth, Nodes, Pool, Steps}
 use Rattle.cv_scene.specs.Scenes.{Scene}
 use Rattle.cv_report.specs.verdicts.Verdicts.{ended_with, verdicts_by}
-use Rattle.cv_script.specs.Views.{StepItems, items_of_step}
-use Rattle.cv_script.specs.Views as items
+use Rattle.cv_script.specs.Views.{items_of_step}
 use Rattle.cv_steps.specs.Sequences.{scene}
 use Rattle.cv_syntax_trees.specs.Declarations.{Declaration}
 use Rattle.cv_syntax_trees.specs.Tree.{Tree}
-use Rattle.cv_syntax.specs.PoolTrees.{tree_at}
 
 -- the most steps of a proof
 abbrev pub most_steps : ℕ
 most_steps = 2000
-
--- the names of a file are the first ones
-abbrev pub known_to : (own : ℕ) → ℕ → Bool
-known_to own x = nat_lt x own
-
--- a pool with so many nodes has no room for what a step draws: a cryptographic one its context and then its next game
-abbrev pub LacksRoomFor : (taken : ℕ) → Scene → (closed : List ℕ) → (step : Tree) → Option StepItems → (need : ℕ) → Type 0
-LacksRoomFor taken s closed step (Some (items.Crypto e x)) need = crypto.HasNoRoom most_pool taken s e x need
-LacksRoomFor taken s closed step other need = HasNoRoom most_pool taken (needed s.game step) (judgement_in s closed step) need
 
 -- Why a script goes on no further: so many steps were taken, the nodes of the file and of these are so many, these queries are
 -- closed, and the next step, in this game, is this.
@@ -49,7 +30,7 @@ pub data Stops (taken count : ℕ) (s : Scene) (closed : List ℕ) (step : Tree)
   refused : (condition place : ℕ) → count < most_steps → IsSaid s closed (suc count) step (Refused condition place) → Stops taken count s closed step (status.Open (StepRefused (count + 1) condition place))
   too_large : (nodes : ℕ) → count < most_steps → IsSaid s closed (suc count) step (TooLarge nodes) → Stops taken count s closed step (status.Limit (Nodes nodes))
   too_deep : (depth : ℕ) → count < most_steps → IsSaid s closed (suc count) step (TooDeep depth) → Stops taken count s closed step (status.Limit (Depth depth))
-  no_room : (need : ℕ) → count < most_steps → LacksRoomFor taken s closed step (items_of_step step) need → Stops taken count s closed step (status.Limit (Pool need))
+  no_room : (need : ℕ) → count < most_steps → LacksRoomFor most_pool taken s closed step (items_of_step step) need → Stops taken count s closed step (status.Limit (Pool need))
 
 -- the first of queries, numbered from a number on, that isn't closed
 abbrev pub first_open : (closed : List ℕ) → (number : ℕ) → (queries : List Tree) → Option ℕ
@@ -73,22 +54,6 @@ pub record Follows (taken : ℕ) (ds : List Declaration) (own : ℕ) (first : Tr
   pub last : Tree
   pub leads : IsProof ds (known_to own) first proof last
   pub ends : EndsScript (taken + nodes_along ds (known_to own) first proof) (length proof) (scene ds (known_to own) last) (closed_by proof) queries left end
-
--- what a trail says of a transition, and of each entry: the step, its cost, the shape of its context and the game that it leads to; a
--- step that closes a query leads to no game of its own
-
-abbrev pub Told : Type 0
-Told = Tree × Cost × Option Shape × Option Tree
-
-abbrev pub entry_in : List KindTree → Entry → Told
-entry_in trees e = (tree_at trees (Some e.step.0), e.cost, option_map shape_in e.context, option_map (λ g. tree_at trees (Some g.root)) e.next)
-
-abbrev pub entry_of : Transition → Told
-entry_of t = (t.step, t.cost, t.context, game_behind (closing_in t.step) t.next)
-
--- the step of an entry, with the game of its own that it leads to
-abbrev pub led : Told → Tree × Option Tree
-led t = (t.0, t.3)
 
 -- a file has no proof block: its steps are found
 abbrev pub is_without_block : Option (List Tree) → Bool

@@ -2,33 +2,34 @@
 -- are taken. What is said of them is said as of the steps of a script. This profile's own.
 use Rattle.std.specs.Prelude.{◌≡◌, ℕ, suc, ◌+◌, ◌<◌, ◌≤◌, nat_lt, Bool, true, false, if◌then◌else◌, All, List, [], ◌∷◌, ◌++◌, length, map, take, Option, Some, None}
 use Rattle.cv_accept.specs.Accepted.{most_pool}
-use Rattle.cv_kernel.specs.Drawings.{DrawsAlong, DrawsBefore}
+use Rattle.cv_rule_array_names.specs.Drawings.{DrawsBefore}
 use Rattle.cv_kernel.specs.Proofs.{IsProof, Transition, closed_by}
-use Rattle.cv_kernel.specs.Sequences.{Same, Stands, game_in}
+use Rattle.cv_kernel.specs.Keeping.{StaysUpTo}
+use Rattle.cv_kernel.specs.Sequences.{Same, SameBehind, Stands, game_in}
 use Rattle.cv_kernel.specs.declared.error.PushError.{PushError}
 use Rattle.cv_kernel.specs.declared.error.PushError.TheVariants as push
 use Rattle.cv_kernel.specs.declared.sequence.Sequence.{Sequence}
 use Rattle.cv_kernel_crypto.specs.Applied.{HasEquivalences}
 use Rattle.cv_meaning.specs.Queries.{queries_in}
 use Rattle.cv_parse.specs.Declaring.{IsBelow}
-use Rattle.cv_pool.specs.KindTree.{KindTree}
+use Rattle.cv_pool.specs.declared.node.NodeId.{NodeId}
 use Rattle.cv_pool.specs.PoolView.{PoolView, Grows}
 use Rattle.cv_report.specs.declared.report.Cause.TheVariants.{Moves, Stuck}
-use Rattle.cv_report.specs.declared.report.Entry.{Entry}
 use Rattle.cv_report.specs.declared.report.Status.{Status}
 use Rattle.cv_report.specs.declared.report.Status.TheVariants as status
 use Rattle.cv_report.specs.declared.report.Which.{Which}
 use Rattle.cv_report.specs.declared.report.Which.TheVariants.{Depth, Nodes, Pool, Steps}
-use Rattle.cv_report.specs.Text.{EntryLive}
+use Rattle.cv_report.specs.Lines.{Leg}
+use Rattle.cv_report.specs.Streams.{PutsLeg}
+use Rattle.cv_report.specs.declared.stream.Stream.{Stream}
 use Rattle.cv_scene.specs.Scenes.{Scene}
 use Rattle.cv_scene_view.specs.Kept.{scene_of}
 use Rattle.cv_script.specs.Views.{StepItems}
-use Rattle.cv_step_writer.specs.declared.proposals.Proposal.{Proposal}
-use Rattle.cv_step_writer.specs.declared.proposals.Proposal.TheVariants as proposal
 use Rattle.cv_steps.specs.Sequences.{scene}
 use Rattle.cv_syntax.specs.declared.work.BuildError.TheVariants as build
 use Rattle.cv_syntax.specs.declared.work.Work.{Work}
 use Rattle.cv_syntax.specs.Declarations.{declarations}
+use Rattle.cv_syntax.specs.PoolTrees.{tree_at}
 use Rattle.cv_syntax_trees.specs.declared.head.Head.TheVariants.{ArrayRenameStep, CryptoStep, UnletStep}
 use Rattle.cv_syntax_trees.specs.Declarations.{Declaration}
 use Rattle.cv_syntax_trees.specs.Tree.{Tree, Node}
@@ -37,8 +38,10 @@ use Rattle.cv_follow.specs.declared.searching.Ending.TheVariants.{Exhausted, Sto
 use Rattle.cv_follow.specs.declared.searching.Tried.{Tried}
 use Rattle.cv_follow.specs.declared.searching.Tried.TheVariants.{Accepted, Nothing, Passed, Refused}
 use Rattle.cv_follow.specs.declared.walk.Walk.{Walk}
-use Rattle.cv_follow.specs.Scripts.{Stops, entry_in, entry_of, first_open, known_to, led, verdicts_of}
-use Rattle.cv_follow.specs.Walks.{HasFollowed}
+use Rattle.cv_follow.specs.Courses.{Course, IsLegOf, IsReached, PutsNothing, PutsSome, leg_of}
+use Rattle.cv_follow.specs.Scripts.{Stops, first_open}
+use Rattle.cv_kernel.specs.Followed.{known_to}
+use Rattle.cv_follow.specs.Walks.{HasGone, HasStopped, course_of}
 
 -- the steps that count as moves: a cryptographic one, one that gives the copies of an array names of their own, and an `unlet` where it is
 -- advised and not one that settles a game
@@ -90,75 +93,78 @@ pub record Finds (taken moves : ℕ) (ds : List Declaration) (own : ℕ) (first 
   pub few : made ≤ moves
   pub ends : EndsSearch moves made taken (scene ds (known_to own) last) (map (λ t. t.step) proof) (closed_by proof) (queries_in ds) end
 
+-- so it is along a course
+pub record FindsAlong (taken moves : ℕ) (ds : List Declaration) (own : ℕ) (c : Course) (end : Status) : Type 0 where
+  pub made : ℕ
+  pub counted : AreMoves (map (λ t. t.step) c.proof) made
+  pub few : made ≤ moves
+  pub ends : EndsSearch moves made taken (scene ds (known_to own) c.last) (map (λ t. t.step) c.proof) (closed_by c.proof) (queries_in ds) end
+
 -- what a search leaves
-pub record IsSearch (moves : ℕ) (ds : List Declaration) (own : ℕ) (first : Tree) (trees : List KindTree) (w : Walk) : Type 0 where
-  pub finds : Finds (length trees) moves ds own first w.status
-  pub trail : map (entry_in trees) w.trail.items ≡ map entry_of finds.proof
-  pub verdicts : w.verdicts.items ≡ verdicts_of finds.proof (queries_in ds)
-  pub live : All (EntryLive (length trees)) w.trail.items
+pub record HasSearched (start now : Work) (first : Tree) (moves : ℕ) (Puts : Course → Type 0) (w : Walk) : Type 0 where
+  pub reached : IsReached true start now first Puts
+  pub stopped : HasStopped start.names now (queries_in (declarations start.pool.trees start.decls.list)) reached.course (FindsAlong (length now.pool.trees) moves (declarations start.pool.trees start.decls.list) start.decls.own reached.course) w
 
--- with what it leaves of a work
-pub record HasSearched (start now : Work) (first : Tree) (moves : ℕ) (w : Walk) : Type 0 where
-  pub search : IsSearch moves (declarations start.pool.trees start.decls.list) start.decls.own first now.pool.trees w
-  pub drawn : DrawsAlong true (declarations start.pool.trees start.decls.list) (known_to start.decls.own) start.decls.own first (map led (map (entry_in now.pool.trees) w.trail.items)) start.names now.names
-  pub grows : Grows start.pool now.pool
-  pub names : take (length start.names) now.names ≡ start.names
-  pub decls : now.decls ≡ start.decls
-
--- A step may be tried: the last game of the sequence stands in the work, whatever was looked up in it.
+-- A step may be tried: the last game of the sequence stands in the work, and nothing was looked up in it, so that the pool may grow.
 pub record MayTry (w : Work) (s : Sequence) : Type 0 where
-  pub stands : Stands w.pool.trees w.decls (record s { arrays = None })
+  pub stands : Stands w.pool.trees w.decls s
+  pub empty : s.arrays ≡ None
   pub declared : All (IsBelow (length w.pool.trees)) w.decls.list
   pub equivalences : HasEquivalences (scene_of w.pool w.decls s.game.root)
   pub limit : w.pool.limit ≡ most_pool
 
--- what was found so far, since a work: the sequence, the trail and the table of names have it; free steps stand in no proof block
-pub record HasFound (free : Bool) (start now : Work) (first : Tree) (s : Sequence) (trail : List Entry) : Type 0 where
+-- what was found so far, since a work
+pub record HasFound (free : Bool) (start now : Work) (first : Tree) (s : Sequence) : Type 0 where
   pub found : List Tree
-  pub followed : HasFollowed (length now.pool.trees) (declarations start.pool.trees start.decls.list) start.decls.own first found now.pool.trees s trail
-  pub drawn : DrawsAlong free (declarations start.pool.trees start.decls.list) (known_to start.decls.own) start.decls.own first (map led (map (entry_in now.pool.trees) trail)) start.names now.names
-  pub grows : Grows start.pool now.pool
-  pub names : take (length start.names) now.names ≡ start.names
-  pub decls : now.decls ≡ start.decls
+  pub gone : HasGone free (length now.pool.trees) start now first found s
 
--- A try that takes no step leaves the sequence, the trail, the names and the declarations; the pool may have grown.
-pub record IsKept (old new : Work) (s t : Sequence) (trail after : List Entry) : Type 0 where
+-- the pool and the table of names have grown, and the declarations stay
+pub record HasGrown (old new : Work) : Type 0 where
+  pub grows : Grows old.pool new.pool
+  pub names : take (length old.names) new.names ≡ old.names
+  pub decls : new.decls ≡ old.decls
+
+-- A try that takes no step leaves the sequence, in whose game nothing is looked up, the names and the declarations; the pool may have grown.
+pub record IsKept (old new : Work) (s t : Sequence) : Type 0 where
   pub grows : Grows old.pool new.pool
   pub names : new.names ≡ old.names
   pub decls : new.decls ≡ old.decls
   pub sequence : Same s t
-  pub entries : after ≡ trail
+  pub empty : t.arrays ≡ None
 
--- one step more was found; it is counted as a move only where one is allowed
-pub record IsFoundMore (start now : Work) (first : Tree) (allowed : Bool) (found : List Tree) (moved : Bool) (s : Sequence) (trail : List Entry) : Type 0 where
-  pub next : HasFound true start now first s trail
-  pub again : MayTry now s
-  pub step : Tree
-  pub put : next.found ≡ found ++ step ∷ []
+-- Behind steps that were found stands one more, at this node: the course has it, with what the sequence tells of it.
+pub record IsMore (free : Bool) (start old new : Work) (first : Tree) (s t : Sequence) (h : HasFound free start old first s) (node : NodeId) : Type 0 where
+  pub next : HasFound free start new first t
+  pub live : node.0 < length new.pool.trees
+  pub step : Transition
+  pub tree : step.step ≡ tree_at new.pool.trees (Some node)
+  pub put : next.found ≡ h.found ++ step.step ∷ []
+  pub proof : next.gone.followed.proof ≡ h.gone.followed.proof ++ step ∷ []
+  pub tables : next.gone.tables ≡ h.gone.tables ++ new.names ∷ []
+  pub leg : IsLegOf new.names new.pool.trees t step.step (leg_of step new.names)
+  pub again : MayTry new t
+
+-- such a step is counted as a move only where one is allowed
+pub record IsFoundMore (start old new : Work) (first : Tree) (allowed : Bool) (s t : Sequence) (h : HasFound true start old first s) (node : NodeId) (moved : Bool) : Type 0 where
+  pub more : IsMore true start old new first s t h node
   pub advised : Bool
-  pub told : moved ≡ is_move advised step
+  pub told : moved ≡ is_move advised more.step.step
   pub may : moved ≡ true → allowed ≡ true
 
 -- What came of a try, behind the steps that were found.
-abbrev pub Comes : (start old new : Work) → (first : Tree) → (allowed : Bool) → (s t : Sequence) → (trail after : List Entry) → HasFound true start old first s trail → Tried → Type 0
-Comes start old new first allowed s t trail after h (Accepted moved) = IsFoundMore start new first allowed h.found moved t after
-Comes start old new first allowed s t trail after h Refused = IsKept old new s t trail after
-Comes start old new first allowed s t trail after h Nothing = IsKept old new s t trail after
-Comes start old new first allowed s t trail after h (Passed which) =
-    IsKept old new s t trail after
-    × Passes (length new.pool.trees) (length h.found) (scene (declarations start.pool.trees start.decls.list) (known_to start.decls.own) (game_in old.pool.trees s)) (closed_by h.followed.proof) which
+abbrev pub Comes : (start old new : Work) → (first : Tree) → (allowed : Bool) → (s t : Sequence) → HasFound true start old first s → Tried → Type 0
+Comes start old new first allowed s t h (Accepted step moved) = IsFoundMore start old new first allowed s t h step.0 moved
+Comes start old new first allowed s t h Refused = IsKept old new s t
+Comes start old new first allowed s t h Nothing = IsKept old new s t
+Comes start old new first allowed s t h (Passed which) =
+    IsKept old new s t
+    × Passes (length new.pool.trees) (length h.found) (scene (declarations start.pool.trees start.decls.list) (known_to start.decls.own) (game_in old.pool.trees s)) (closed_by h.gone.followed.proof) which
 
 -- so it is whatever was found before, since whatever work
-abbrev pub ComesTo : (old new : Work) → (allowed : Bool) → (s t : Sequence) → (trail after : List Entry) → Tried → Type 0
-ComesTo old new allowed s t trail after tried =
+abbrev pub ComesTo : (old new : Work) → (allowed : Bool) → (s t : Sequence) → Tried → Type 0
+ComesTo old new allowed s t tried =
     (start : Work) (first : Tree) → All (IsBelow (length start.pool.trees)) start.decls.list
-    → (h : HasFound true start old first s trail) → Comes start old new first allowed s t trail after h tried
-
--- a proposed step gives new names
-
-abbrev pub gives_names : Proposal → Bool
-gives_names (proposal.ArrayRename x to) = true
-gives_names p = false
+    → (h : HasFound true start old first s) → Comes start old new first allowed s t h tried
 
 -- A step is ready to be tried: behind so many names the table has what is drawn before. Where the step isn't taken, these go.
 
@@ -169,26 +175,52 @@ abbrev pub with_names : (n : ℕ) → Work → Work
 with_names n w = record w { names = take n w.names }
 
 abbrev pub without_drawn : Tried → (n : ℕ) → Work → Work
-without_drawn (Accepted moved) n w = w
+without_drawn (Accepted step moved) n w = w
 without_drawn tried n w = with_names n w
 
 -- a step was taken
 
 abbrev pub is_taken : Tried → Bool
-is_taken (Accepted moved) = true
+is_taken (Accepted step moved) = true
 is_taken tried = false
 
 -- what came of a step that was ready, but for the names that are still to go
-abbrev pub ComesFrom : (n : ℕ) → (old new : Work) → (allowed : Bool) → (s t : Sequence) → (trail after : List Entry) → Tried → Type 0
-ComesFrom n old new allowed s t trail after tried =
-    ComesTo (with_names n old) (without_drawn tried n new) allowed s t trail after tried
+abbrev pub ComesFrom : (n : ℕ) → (old new : Work) → (allowed : Bool) → (s t : Sequence) → Tried → Type 0
+ComesFrom n old new allowed s t tried = ComesTo (with_names n old) (without_drawn tried n new) allowed s t tried
 
--- while a search goes on: so many of the steps that were found were counted as moves
-pub record IsSearching (start now : Work) (first : Tree) (made moves : ℕ) (s : Sequence) (trail : List Entry) : Type 0 where
-  pub found : HasFound true start now first s trail
+-- A step that was taken by a try stands in the pool, and the sequence counts one step more than the stream; else it counts as many.
+abbrev pub IsBehind : Tried → Work → Sequence → Stream → Type 0
+IsBehind (Accepted step moved) w s stream = (step.0.0 < length w.pool.trees) × (s.steps ≡ suc stream.steps)
+IsBehind tried w s stream = s.steps ≡ stream.steps
+
+-- Games were given back, but for what stands up to a mark and the last one.
+pub record IsGivenBack (mark : ℕ) (old new : Work) (s t : Sequence) : Type 0 where
+  pub stays : StaysUpTo mark old.pool new.pool
+  pub few : length new.pool.trees ≤ length old.pool.trees
+  pub game : game_in new.pool.trees t ≡ game_in old.pool.trees s
+  pub same : SameBehind s t
+  pub names : new.names ≡ old.names
+  pub decls : new.decls ≡ old.decls
+
+-- what was put behind a try: the lines of a step that was taken, and else nothing
+abbrev pub PutsBehind : Tried → Work → Sequence → (middle now : Option (List ℕ)) → (mid new : ℕ) → (s t : Stream) → Type 0
+PutsBehind (Accepted step moved) w q middle now mid new s t =
+    (e : Leg) → IsLegOf w.names w.pool.trees q (tree_at w.pool.trees (Some step.0)) e → PutsLeg middle now mid new e s t
+PutsBehind tried w q middle now mid new s t = PutsNothing middle now mid new s t
+
+-- where memory ran out: the lines of the step, or nothing
+abbrev pub CutsBehind : Tried → Work → Sequence → (middle now : Option (List ℕ)) → (mid new : ℕ) → (s t : Stream) → Type 0
+CutsBehind (Accepted step moved) w q middle now mid new s t =
+    (e : Leg) → IsLegOf w.names w.pool.trees q (tree_at w.pool.trees (Some step.0)) e → PutsSome middle now mid new e s t
+CutsBehind tried w q middle now mid new s t = ⊥
+
+-- while a search goes on: so many of the steps that were found were counted as moves, and the lines of their course were put
+pub record IsSearching (start now : Work) (first : Tree) (made moves : ℕ) (s : Sequence) (Puts : Course → Type 0) : Type 0 where
+  pub found : HasFound true start now first s
   pub counted : AreMoves found.found made
   pub few : made ≤ moves
   pub again : MayTry now s
+  pub puts : Puts (course_of found.gone)
 
 -- a search has ended with what was found so far: there is no more proposal, or a limit is passed
 
@@ -196,21 +228,21 @@ abbrev pub EndedBy : (made : ℕ) → (passes : Which → Type 0) → Ending →
 EndedBy made passes (Exhausted n) = n ≡ made
 EndedBy made passes (Stopped which) = passes which
 
-pub record HasEnded (start now : Work) (first : Tree) (moves : ℕ) (s : Sequence) (trail : List Entry) (ending : Ending) : Type 0 where
+pub record HasEnded (start now : Work) (first : Tree) (moves : ℕ) (s : Sequence) (Puts : Course → Type 0) (ending : Ending) : Type 0 where
   pub made : ℕ
-  pub searching : IsSearching start now first made moves s trail
-  pub ended : EndedBy made (Passes (length now.pool.trees) (length searching.found.found) (scene (declarations start.pool.trees start.decls.list) (known_to start.decls.own) (game_in now.pool.trees s)) (closed_by searching.found.followed.proof)) ending
+  pub searching : IsSearching start now first made moves s Puts
+  pub ended : EndedBy made (Passes (length now.pool.trees) (length searching.found.found) (scene (declarations start.pool.trees start.decls.list) (known_to start.decls.own) (game_in now.pool.trees s)) (closed_by searching.found.gone.followed.proof)) ending
 
 -- how a search ends where a try comes to this, and how many moves were made where it goes on
 
 abbrev pub ending_by : Tried → (made : ℕ) → Option Ending
-ending_by (Accepted moved) made = None
+ending_by (Accepted step moved) made = None
 ending_by Refused made = None
 ending_by Nothing made = Some (Exhausted made)
 ending_by (Passed which) made = Some (Stopped which)
 
 abbrev pub made_behind : Tried → (made : ℕ) → ℕ
-made_behind (Accepted moved) made = moves_more moved made
+made_behind (Accepted step moved) made = moves_more moved made
 made_behind tried made = made
 
 -- how a run ends whose search ended so

@@ -1,5 +1,5 @@
 // Scripts with the word `simplify`, in whose place steps are found that settle the game.
-ghost use Rattle.std.specs.Prelude.{◌≡◌, ◌<◌, ◌≤◌, ◌^◌, All, IfOk, IfSome, OnOk, None, Some, length, map, take, true, false};
+ghost use Rattle.std.specs.Prelude.{◌≡◌, ◌<◌, ◌≤◌, ◌^◌, All, IfOk, IfSome, OnErr, OnOk, None, Some, length, map, true, false};
 ghost use Rattle.cv_pool.specs.PoolView.{Grows};
 ghost use Rattle.cv_syntax.specs.Classes.{queries};
 ghost use Rattle.cv_syntax.specs.Declarations.{declarations};
@@ -13,20 +13,19 @@ ghost use Rattle.cv_accept.specs.Works.{HasSteps};
 ghost use Rattle.cv_accept.specs.Accepted.{most_pool};
 ghost use Rattle.cv_scene_view.specs.Kept.{scene_of};
 ghost use Rattle.cv_kernel_crypto.specs.Applied.{HasEquivalences};
-ghost use Rattle.cv_kernel.specs.Drawings.{DrawsAlong};
-ghost use Rattle.cv_follow.specs.Scripts.{entry_in, known_to, led};
-ghost use Rattle.cv_follow.specs.Searches.{MayTry};
-ghost use Rattle.cv_follow.specs.Fillings.{Advances, IsBlockWalk, IsFilledWalk, SettlesAll, SettlesOne, TakesOne, ended_by, goes_on_behind, has_word, is_word as is_word_tree, settles as settles_tree};
+ghost use Rattle.cv_follow.specs.Courses.{PutsCourse, PutsOn};
+ghost use Rattle.cv_follow.specs.Searches.{HasGrown, MayTry};
+ghost use Rattle.cv_follow.specs.Fillings.{Advances, BreaksOff, IsBlockWalk, IsFilledWalk, SettlesAll, SettlesOne, TakesOne, ended_by, goes_on_behind, has_word, is_word as is_word_tree, settles as settles_tree};
 
-use crate::searching::Tried;
-use crate::walk::{Walk, follow, note, stop_of};
+use crate::searching::{Tried, go_on_behind};
+use crate::walk::{Walk, finished, follow, stop_of, stopped};
 use cv_kernel::Sequence;
-use cv_report::verdicts::{end_of, verdicts_of};
-use cv_report::{Entry, Status};
+use cv_outside::Sink;
+use cv_report::{Status, Stream};
 use cv_script::Step;
 use cv_step_writer::write;
 use cv_strategy::Strategy;
-use cv_syntax::{Game, Head, Pool, PoolError, Work, read_node};
+use cv_syntax::{Game, Head, Mark, Pool, PoolError, Work, read_node};
 use std::alloc::{AllocError, Global};
 
 /// Whether a step of a script is the word.
@@ -60,32 +59,28 @@ fn settles(pool: &Pool, step: Step) -> bool
     }
 }
 
-/// Takes a step, where it is accepted: it goes on the trail. Else it gives how a run ends by it.
+/// Takes a step, where it is accepted. Else it gives how a run ends by it.
 #[tactic(auto, using(crate::proofs::Growing::growing))]
 fn take_step(
     alloc: Global,
     work: &mut Work,
     sequence: &mut Sequence,
-    trail: &mut Vec<Entry>,
     step: Step,
 ) -> Result<Option<Status>, AllocError>
     requires may { MayTry work.old sequence.old }
     requires live { step.0.0 < length work.old.pool.trees }
     requires short { nodes_of (tree_at work.old.pool.trees (Some step.0)) < 2 ^ 31 }
     requires few { length work.old.pool.trees ≤ most_pool }
-    ensures taken { IfOk result (TakesOne work.old work.new
-        (tree_at work.old.pool.trees (Some step.0)) sequence.old sequence.new trail.old.items
-        trail.new.items) }
+    ensures taken { IfOk result (TakesOne work.old work.new step.0
+        (tree_at work.old.pool.trees (Some step.0)) sequence.old sequence.new) }
     ensures again { IfOk result (λ o. MayTry work.new sequence.new) }
-    ensures grows { Grows work.old.pool work.new.pool }
+    ensures grown { HasGrown work.old work.new }
     ensures room { IfOk result (λ o. length work.new.pool.trees ≤ most_pool) }
 {
+    let pushed = sequence.push(alloc, work, step);
     sequence.forget();
-    match sequence.push(alloc, work, step) {
-        Ok(()) => {
-            note(alloc, &work.pool, sequence, step, trail)?;
-            Ok(None)
-        }
+    match pushed {
+        Ok(()) => Ok(None),
         Err(fault) => match stop_of(fault, sequence.steps()) {
             Some(status) => Ok(Some(status)),
             None => Err(AllocError),
@@ -129,24 +124,22 @@ fn try_step(
     alloc: Global,
     work: &mut Work,
     sequence: &mut Sequence,
-    trail: &mut Vec<Entry>,
     step: Step,
 ) -> Result<Tried, AllocError>
     requires may { MayTry work.old sequence.old }
     requires live { step.0.0 < length work.old.pool.trees }
     requires short { nodes_of (tree_at work.old.pool.trees (Some step.0)) < 2 ^ 31 }
     requires few { length work.old.pool.trees ≤ most_pool }
-    ensures tried { IfOk result (SettlesOne work.old work.new sequence.old sequence.new
-        trail.old.items trail.new.items) }
+    ensures tried { IfOk result (SettlesOne work.old work.new sequence.old sequence.new) }
     ensures again { IfOk result (λ o. MayTry work.new sequence.new) }
-    ensures grows { Grows work.old.pool work.new.pool }
+    ensures grown { HasGrown work.old work.new }
     ensures room { IfOk result (λ o. length work.new.pool.trees ≤ most_pool) }
 {
     if !settles(&work.pool, step) {
         return Ok(Tried::Refused);
     }
-    match take_step(alloc, work, sequence, trail, step)? {
-        None => Ok(Tried::Accepted(false)),
+    match take_step(alloc, work, sequence, step)? {
+        None => Ok(Tried::Accepted(step, false)),
         Some(Status::Limit(which)) => Ok(Tried::Passed(which)),
         Some(_) => Ok(Tried::Refused),
     }
@@ -158,14 +151,13 @@ fn settle_once(
     alloc: Global,
     work: &mut Work,
     sequence: &mut Sequence,
-    trail: &mut Vec<Entry>,
     strategy: &mut Strategy,
 ) -> Result<Tried, AllocError>
     requires may { MayTry work.old sequence.old }
     requires few { length work.old.pool.trees ≤ most_pool }
-    ensures tried { IfOk result (SettlesOne work.old work.new sequence.old sequence.new
-        trail.old.items trail.new.items) }
+    ensures tried { IfOk result (SettlesOne work.old work.new sequence.old sequence.new) }
     ensures again { IfOk result (λ t. MayTry work.new sequence.new) }
+    ensures grown { HasGrown work.old work.new }
     ensures room { IfOk result (λ t. length work.new.pool.trees ≤ most_pool) }
 {
     let before = work.pool.mark();
@@ -173,10 +165,10 @@ fn settle_once(
         work.pool.release(before);
         return Ok(Tried::Nothing);
     };
-    match try_step(alloc, work, sequence, trail, step)? {
-        Tried::Accepted(moved) => {
+    match try_step(alloc, work, sequence, step)? {
+        Tried::Accepted(step, moved) => {
             strategy.accept();
-            Ok(Tried::Accepted(moved))
+            Ok(Tried::Accepted(step, moved))
         }
         Tried::Refused => {
             work.pool.release(before);
@@ -193,7 +185,7 @@ fn goes_on(tried: Tried) -> bool
     ensures { result ≡ goes_on_behind tried }
 {
     match tried {
-        Tried::Accepted(_) => true,
+        Tried::Accepted(_, _) => true,
         Tried::Refused => true,
         Tried::Nothing => false,
         Tried::Passed(_) => false,
@@ -210,59 +202,92 @@ fn end_by(tried: Tried) -> Option<Status>
     }
 }
 
-/// Takes the steps that settle a game, as long as some are proposed and no limit is passed: else it gives how the run ends.
-fn settle(
+/// Takes the steps that settle a game, as long as some are proposed and no limit is passed, and puts the lines of each: else it gives how
+/// the run ends.
+fn settle<K: Sink>(
     alloc: Global,
     work: &mut Work,
     sequence: &mut Sequence,
-    trail: &mut Vec<Entry>,
     strategy: &mut Strategy,
+    mark: Mark,
+    stream: &mut Stream,
+    sink: &mut K,
 ) -> Result<Option<Status>, AllocError>
     requires may { MayTry work.old sequence.old }
     requires few { length work.old.pool.trees ≤ most_pool }
-    ensures settled { IfOk result (SettlesAll work.old work.new sequence.old sequence.new
-        trail.old.items trail.new.items) }
-    ensures again { IfOk result (λ o. MayTry work.new sequence.new) }
-    ensures room { IfOk result (λ o. length work.new.pool.trees ≤ most_pool) }
+    requires mark { mark.0 ≤ length work.old.pool.trees }
+    requires declared { All (IsBelow mark.0) work.old.decls.list }
+    requires steps { sequence.old.steps ≡ stream.old.steps }
+    ensures settled { IfOk result (SettlesAll mark.0 work.old work.new sequence.old sequence.new
+        (λ l m. PutsOn (K.taken sink.old) (K.taken sink.new) (K.faults sink.old)
+        (K.faults sink.new) l m stream.old stream.new)) }
+    ensures cut { OnErr result (BreaksOff mark.0 work.old work.new sequence.old
+        (λ l m. PutsOn (K.taken sink.old) (K.taken sink.new) (K.faults sink.old)
+        (K.faults sink.new) l m stream.old stream.new)) }
+    ensures again { OnOk result (MayTry work.new sequence.new) }
+    ensures room { OnOk result (length work.new.pool.trees ≤ most_pool) }
+    ensures steps { OnOk result (sequence.new.steps ≡ stream.new.steps) }
 {
     strategy.restart();
     'tries: for _ in 0..u64::MAX {
-        let tried = settle_once(alloc, work, sequence, trail, strategy)?;
+        let tried = settle_once(alloc, work, sequence, strategy)?;
         if !goes_on(tried) {
             return Ok(end_by(tried));
         }
+        go_on_behind(alloc, work, sequence, tried, mark, stream, sink)?;
     }
     Ok(None)
 }
 
-/// Takes a step of a script, or those that are found in the place of the word.
-fn advance(
+/// Takes a step of a script, or those that are found in the place of the word, and puts the lines of each.
+fn advance<K: Sink>(
     alloc: Global,
     work: &mut Work,
     sequence: &mut Sequence,
-    trail: &mut Vec<Entry>,
     strategy: &mut Strategy,
     step: Step,
+    mark: Mark,
+    stream: &mut Stream,
+    sink: &mut K,
 ) -> Result<Option<Status>, AllocError>
     requires may { MayTry work.old sequence.old }
     requires live { step.0.0 < length work.old.pool.trees }
     requires short { nodes_of (tree_at work.old.pool.trees (Some step.0)) < 2 ^ 31 }
     requires few { length work.old.pool.trees ≤ most_pool }
-    ensures advanced { IfOk result (Advances work.old work.new
-        (tree_at work.old.pool.trees (Some step.0)) sequence.old sequence.new trail.old.items
-        trail.new.items) }
-    ensures again { IfOk result (λ o. MayTry work.new sequence.new) }
-    ensures room { IfOk result (λ o. length work.new.pool.trees ≤ most_pool) }
+    requires mark { mark.0 ≤ length work.old.pool.trees }
+    requires declared { All (IsBelow mark.0) work.old.decls.list }
+    requires steps { sequence.old.steps ≡ stream.old.steps }
+    ensures advanced { IfOk result (Advances mark.0 work.old work.new
+        (tree_at work.old.pool.trees (Some step.0)) sequence.old sequence.new
+        (λ l m. PutsOn (K.taken sink.old) (K.taken sink.new) (K.faults sink.old)
+        (K.faults sink.new) l m stream.old stream.new)) }
+    ensures cut { OnErr result (BreaksOff mark.0 work.old work.new sequence.old
+        (λ l m. PutsOn (K.taken sink.old) (K.taken sink.new) (K.faults sink.old)
+        (K.faults sink.new) l m stream.old stream.new)) }
+    ensures again { OnOk result (MayTry work.new sequence.new) }
+    ensures room { OnOk result (length work.new.pool.trees ≤ most_pool) }
+    ensures steps { OnOk result (sequence.new.steps ≡ stream.new.steps) }
 {
     if is_word(&work.pool, step) {
-        settle(alloc, work, sequence, trail, strategy)
-    } else {
-        take_step(alloc, work, sequence, trail, step)
+        return settle(alloc, work, sequence, strategy, mark, stream, sink);
     }
+    if let Some(status) = take_step(alloc, work, sequence, step)? {
+        return Ok(Some(status));
+    }
+    let tried = Tried::Accepted(step, false);
+    go_on_behind(alloc, work, sequence, tried, mark, stream, sink)?;
+    Ok(None)
 }
 
 /// Follows a script with the word from a game on, as long as its steps are accepted.
-fn fill(alloc: Global, work: &mut Work, game: Game, script: &[Step]) -> Result<Walk, AllocError>
+fn fill<K: Sink>(
+    alloc: Global,
+    work: &mut Work,
+    game: Game,
+    script: &[Step],
+    stream: &mut Stream,
+    sink: &mut K,
+) -> Walk
     requires game { game.root.0 < length work.old.pool.trees }
     requires small { size (tree_at work.old.pool.trees (Some game.root)) ≤ 50000 }
     requires formed { IsWellFormed (declarations work.old.pool.trees work.old.decls.list)
@@ -271,30 +296,35 @@ fn fill(alloc: Global, work: &mut Work, game: Game, script: &[Step]) -> Result<W
     requires equivalences { HasEquivalences (scene_of work.old.pool work.old.decls game.root) }
     requires steps { HasSteps work.old.pool.limit work.old.pool.trees script.now }
     requires limit { work.old.pool.limit ≡ most_pool }
-    ensures { IfOk result (IsFilledWalk work.old work.new
-        (tree_at work.old.pool.trees (Some game.root)) (trees_of work.old.pool.trees script.now)) }
+    requires begun { stream.old.steps ≡ 0 }
+    ensures { IsFilledWalk work.old work.new (tree_at work.old.pool.trees (Some game.root))
+        (trees_of work.old.pool.trees script.now)
+        (map (λ n. tree_at work.old.pool.trees (Some n)) (queries work.old.decls.list))
+        (PutsCourse (K.taken sink.old) (K.taken sink.new) (K.faults sink.old) (K.faults sink.new)
+        work.old (tree_at work.old.pool.trees (Some game.root)) stream.old stream.new) result }
 {
     let mut sequence = Sequence::start(alloc, game);
-    let mut trail = Vec::new(alloc);
     let mut strategy = Strategy::new(false);
+    let mark = work.pool.mark();
     'steps: for step in script {
-        let end = advance(alloc, work, &mut sequence, &mut trail, &mut strategy, *step)?;
+        let end = advance(
+            alloc,
+            work,
+            &mut sequence,
+            &mut strategy,
+            *step,
+            mark,
+            stream,
+            sink,
+        );
+        let Ok(end) = end else {
+            return Walk::spent(alloc);
+        };
         if let Some(status) = end {
-            let verdicts = verdicts_of(alloc, &work.decls, sequence.closed())?;
-            return Ok(Walk {
-                trail,
-                verdicts,
-                status,
-            });
+            return stopped(alloc, &work.decls, &sequence, status);
         }
     }
-    let verdicts = verdicts_of(alloc, &work.decls, sequence.closed())?;
-    let status = end_of(sequence.closed(), verdicts.as_slice().len() as u32);
-    Ok(Walk {
-        trail,
-        verdicts,
-        status,
-    })
+    finished(alloc, &work.decls, &sequence)
 }
 
 /// Whether a script has the word.
@@ -310,14 +340,16 @@ fn has_word(pool: &Pool, script: &[Step]) -> bool
     false
 }
 
-/// Follows a script from a game on, as long as its steps are accepted; in the place of the word steps are found. The names that
-/// steps draw stand behind the others.
-pub fn follow_block(
+/// Follows a script from a game on, as long as its steps are accepted, and puts the lines of each; in the place of the word steps are
+/// found. The names that steps draw stand behind the others.
+pub fn follow_block<K: Sink>(
     alloc: Global,
     work: &mut Work,
     game: Game,
     script: &[Step],
-) -> Result<Walk, AllocError>
+    stream: &mut Stream,
+    sink: &mut K,
+) -> Walk
     requires game { game.root.0 < length work.old.pool.trees }
     requires small { size (tree_at work.old.pool.trees (Some game.root)) ≤ 50000 }
     requires formed { IsWellFormed (declarations work.old.pool.trees work.old.decls.list)
@@ -326,24 +358,16 @@ pub fn follow_block(
     requires equivalences { HasEquivalences (scene_of work.old.pool work.old.decls game.root) }
     requires steps { HasSteps work.old.pool.limit work.old.pool.trees script.now }
     requires limit { work.old.pool.limit ≡ most_pool }
-    ensures walk { IfOk result (λ w. IsBlockWalk (length work.old.pool.trees)
-        (declarations work.old.pool.trees work.old.decls.list) work.old.decls.own
+    requires begun { stream.old.steps ≡ 0 }
+    ensures { IsBlockWalk (length work.old.pool.trees) work.old work.new
         (tree_at work.old.pool.trees (Some game.root)) (trees_of work.old.pool.trees script.now)
         (map (λ n. tree_at work.old.pool.trees (Some n)) (queries work.old.decls.list))
-        work.new.pool.trees w) }
-    ensures drawn { IfOk result (λ w. DrawsAlong false
-        (declarations work.old.pool.trees work.old.decls.list) (known_to work.old.decls.own)
-        work.old.decls.own (tree_at work.old.pool.trees (Some game.root))
-        (map led (map (entry_in work.new.pool.trees) w.trail.items)) work.old.names
-        work.new.names) }
-    ensures grows { OnOk result (Grows work.old.pool work.new.pool) }
-    ensures names { OnOk result (take (length work.old.names) work.new.names ≡ work.old.names) }
-    ensures decls { OnOk result (work.new.decls ≡ work.old.decls) }
+        (PutsCourse (K.taken sink.old) (K.taken sink.new) (K.faults sink.old) (K.faults sink.new)
+        work.old (tree_at work.old.pool.trees (Some game.root)) stream.old stream.new) result }
 {
     if has_word(&work.pool, script) {
-        let walk = fill(alloc, work, game, script)?;
-        return Ok(walk);
+        fill(alloc, work, game, script, stream, sink)
+    } else {
+        follow(alloc, work, game, script, stream, sink)
     }
-    let walk = follow(alloc, work, game, script)?;
-    Ok(walk)
 }

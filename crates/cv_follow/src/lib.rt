@@ -3,7 +3,6 @@
 #![tactic(auto)]
 
 mod filling;
-mod naming;
 mod searching;
 mod walk;
 

@@ -1,4 +1,4 @@
-ghost use Rattle.std.specs.Prelude.{◌≡◌, ◌+◌, ◌<◌, ◌≤◌, ◌^◌, ℕ, All, IfOk, OnOk, None, Some, length, true};
+ghost use Rattle.std.specs.Prelude.{◌≡◌, ◌+◌, ◌<◌, ◌≤◌, ◌^◌, ℕ, All, IfOk, OnErr, OnOk, Some, length, true};
 ghost use Rattle.cv_pool.specs.PoolView.{Grows};
 ghost use Rattle.cv_syntax.specs.Classes.{queries};
 ghost use Rattle.cv_syntax.specs.Declarations.{declarations};
@@ -9,31 +9,35 @@ ghost use Rattle.cv_parse.specs.Declaring.{IsBelow};
 ghost use Rattle.cv_scope_rules.specs.Phrases.{IsWellFormed};
 ghost use Rattle.cv_accept.specs.Accepted.{most_pool};
 ghost use Rattle.cv_bound.specs.closings.Queries.{first_unclosed, numbers_of, sum_in};
-ghost use Rattle.cv_report.specs.verdicts.Verdicts.{verdicts_by};
 ghost use Rattle.cv_kernel_crypto.specs.Applied.{HasEquivalences};
 ghost use Rattle.cv_scene_view.specs.Kept.{scene_of};
 ghost use Rattle.cv_step_writer.specs.Proposals.{IsProposalBelow, step_tree};
 ghost use Rattle.cv_script.specs.Views.{items_of_step};
+ghost use Rattle.cv_kernel.specs.Keeping.{StaysUpTo};
 ghost use Rattle.cv_kernel.specs.Sequences.{game_in};
-ghost use Rattle.cv_follow.specs.Searches.{ComesFrom, ComesTo, HasEnded, HasSearched, IsFailed, IsReady, IsReleased, IsSearching, MayTry, end_of_search, ending_by, is_move as is_move_tree, is_taken, made_behind, status_of, tried_of};
+ghost use Rattle.cv_script.specs.declared.steps.Step.{Step};
+ghost use Rattle.cv_follow.specs.Courses.{IsReached, PutsCourse};
+ghost use Rattle.cv_follow.specs.Walks.{IsStopped};
+ghost use Rattle.cv_follow.specs.Searches.{ComesFrom, ComesTo, CutsBehind, HasEnded, HasGrown, HasSearched, IsBehind, IsFailed, IsGivenBack, IsReady, IsReleased, IsSearching, MayTry, PutsBehind, end_of_search, ending_by, is_move as is_move_tree, is_taken, made_behind, status_of, tried_of};
 
-use crate::naming::with_drawn;
-use crate::walk::{Walk, note};
+use crate::walk::{Walk, go_on};
 use cv_bound::closings::ClosedQueries;
 use cv_kernel::{PushError, Sequence};
+use cv_outside::Sink;
 use cv_report::verdicts::verdicts_of;
-use cv_report::{Cause, Entry, Status, Which};
+use cv_report::{Cause, Status, Stream, Which};
+use cv_rule_array_names::with_drawn;
 use cv_script::Step;
 use cv_step_writer::{Proposal, write};
 use cv_strategy::Strategy;
-use cv_syntax::{BuildError, Decls, Game, Head, Pool, PoolError, Work, read_node};
+use cv_syntax::{BuildError, Decls, Game, Head, Mark, Pool, PoolError, Work, read_node};
 use std::alloc::{AllocError, Global};
 
 /// What comes of a try.
 #[derive(Clone, Copy)]
 pub enum Tried {
     /// A step was accepted; whether it counts as a move.
-    Accepted(bool),
+    Accepted(Step, bool),
     /// What was proposed isn't taken.
     Refused,
     /// There is no proposal.
@@ -82,39 +86,34 @@ fn tried_by(fault: PushError) -> Option<Tried>
     }
 }
 
-/// Takes a step that was written, where it is accepted: it goes on the trail. A move comes only where one is allowed. Names
+/// Takes a step that was written, where it is accepted. A move comes only where one is allowed. Names
 /// that were drawn for it are in the table, and are left there.
 #[tactic(auto, using(crate::proofs::Growing::growing))]
 fn take(
     alloc: Global,
     work: &mut Work,
     sequence: &mut Sequence,
-    trail: &mut Vec<Entry>,
     step: Step,
     advised: bool,
     may_move: bool,
 ) -> Result<Tried, AllocError>
     requires may { MayTry work.old sequence.old }
-    requires empty { sequence.old.arrays ≡ None }
     requires live { step.0.0 < length work.old.pool.trees }
     requires short { nodes_of (tree_at work.old.pool.trees (Some step.0)) < 2 ^ 31 }
     requires few { length work.old.pool.trees ≤ most_pool }
     ensures tried { (n : ℕ) → IsReady n work.old sequence.old
         (items_of_step (tree_at work.old.pool.trees (Some step.0))) → IfOk result
-        (ComesFrom n work.old work.new may_move sequence.old sequence.new trail.old.items
-        trail.new.items) }
-    ensures grows { Grows work.old.pool work.new.pool }
-    ensures names { OnOk result (length work.old.names ≤ length work.new.names) }
+        (ComesFrom n work.old work.new may_move sequence.old sequence.new) }
+    ensures grown { HasGrown work.old work.new }
 {
     let moved = is_move(&work.pool, step, advised);
     if moved && !may_move {
         return Ok(Tried::Refused);
     }
-    match sequence.push(alloc, work, step) {
-        Ok(()) => {
-            note(alloc, &work.pool, sequence, step, trail)?;
-            Ok(Tried::Accepted(moved))
-        }
+    let pushed = sequence.push(alloc, work, step);
+    sequence.forget();
+    match pushed {
+        Ok(()) => Ok(Tried::Accepted(step, moved)),
         Err(fault) => {
             let Some(tried) = tried_by(fault) else {
                 return Err(AllocError);
@@ -130,23 +129,19 @@ fn write_and_take(
     alloc: Global,
     work: &mut Work,
     sequence: &mut Sequence,
-    trail: &mut Vec<Entry>,
     proposal: &Proposal,
     advised: bool,
     may_move: bool,
 ) -> Result<Tried, AllocError>
     requires may { MayTry work.old sequence.old }
-    requires empty { sequence.old.arrays ≡ None }
     requires below { IsProposalBelow (length work.old.pool.trees) proposal.now }
     ensures tried { (n : ℕ) → IsReady n work.old sequence.old
         (items_of_step (step_tree work.old.pool.trees proposal.now)) → IfOk result
-        (ComesFrom n work.old work.new may_move sequence.old sequence.new trail.old.items
-        trail.new.items) }
-    ensures grows { Grows work.old.pool work.new.pool }
-    ensures names { OnOk result (length work.old.names ≤ length work.new.names) }
+        (ComesFrom n work.old work.new may_move sequence.old sequence.new) }
+    ensures grown { HasGrown work.old work.new }
 {
     match write(alloc, &mut work.pool, proposal) {
-        Ok(node) => take(alloc, work, sequence, trail, Step(node), advised, may_move),
+        Ok(node) => take(alloc, work, sequence, Step(node), advised, may_move),
         Err(PoolError::Full { need }) => Ok(Tried::Passed(Which::Pool { need })),
         Err(PoolError::OutOfMemory) => Err(AllocError),
     }
@@ -157,7 +152,7 @@ fn is_taken(tried: Tried) -> bool
     ensures { result ≡ is_taken tried }
 {
     match tried {
-        Tried::Accepted(_) => true,
+        Tried::Accepted(_, _) => true,
         _ => false,
     }
 }
@@ -168,17 +163,14 @@ fn name_and_take(
     alloc: Global,
     work: &mut Work,
     sequence: &mut Sequence,
-    trail: &mut Vec<Entry>,
     proposal: Proposal,
     advised: bool,
     may_move: bool,
 ) -> Result<Tried, AllocError>
     requires may { MayTry work.old sequence.old }
-    requires empty { sequence.old.arrays ≡ None }
     requires below { IsProposalBelow (length work.old.pool.trees) proposal }
-    ensures tried { IfOk result (ComesTo work.old work.new may_move sequence.old sequence.new
-        trail.old.items trail.new.items) }
-    ensures grows { Grows work.old.pool work.new.pool }
+    ensures tried { IfOk result (ComesTo work.old work.new may_move sequence.old sequence.new) }
+    ensures grown { HasGrown work.old work.new }
 {
     let before = work.names.len();
     let own = work.decls.own();
@@ -187,7 +179,7 @@ fn name_and_take(
         work.names.keep(before);
         return Ok(Tried::Refused);
     };
-    let tried = write_and_take(alloc, work, sequence, trail, &step, advised, may_move)?;
+    let tried = write_and_take(alloc, work, sequence, &step, advised, may_move)?;
     if is_taken(tried) {
         return Ok(tried);
     }
@@ -217,15 +209,12 @@ fn try_next(
     alloc: Global,
     work: &mut Work,
     sequence: &mut Sequence,
-    trail: &mut Vec<Entry>,
     strategy: &mut Strategy,
     may_move: bool,
 ) -> Result<Tried, AllocError>
     requires may { MayTry work.old sequence.old }
-    requires empty { sequence.old.arrays ≡ None }
-    ensures tried { IfOk result (ComesTo work.old work.new may_move sequence.old sequence.new
-        trail.old.items trail.new.items) }
-    ensures grows { Grows work.old.pool work.new.pool }
+    ensures tried { IfOk result (ComesTo work.old work.new may_move sequence.old sequence.new) }
+    ensures grown { HasGrown work.old work.new }
 {
     let root = sequence.game().root;
     let closed = sequence.closed();
@@ -233,7 +222,7 @@ fn try_next(
     match step {
         Ok(Some(proposal)) => {
             let advised = strategy.is_moving();
-            name_and_take(alloc, work, sequence, trail, proposal, advised, may_move)
+            name_and_take(alloc, work, sequence, proposal, advised, may_move)
         }
         Ok(None) => Ok(Tried::Nothing),
         Err(fault) => fail(&mut work.pool, fault),
@@ -246,22 +235,20 @@ fn attempt(
     alloc: Global,
     work: &mut Work,
     sequence: &mut Sequence,
-    trail: &mut Vec<Entry>,
     strategy: &mut Strategy,
     may_move: bool,
 ) -> Result<Tried, AllocError>
     requires may { MayTry work.old sequence.old }
-    ensures tried { IfOk result (ComesTo work.old work.new may_move sequence.old sequence.new
-        trail.old.items trail.new.items) }
+    ensures tried { IfOk result (ComesTo work.old work.new may_move sequence.old sequence.new) }
     ensures back { IfOk result (IsReleased work.old.pool work.new.pool) }
+    ensures grown { HasGrown work.old work.new }
 {
-    sequence.forget();
     let before = work.pool.mark();
-    let tried = try_next(alloc, work, sequence, trail, strategy, may_move)?;
+    let tried = try_next(alloc, work, sequence, strategy, may_move)?;
     match tried {
-        Tried::Accepted(moved) => {
+        Tried::Accepted(step, moved) => {
             strategy.accept();
-            Ok(Tried::Accepted(moved))
+            Ok(Tried::Accepted(step, moved))
         }
         Tried::Refused => {
             work.pool.release(before);
@@ -289,40 +276,12 @@ fn end_by(closed: &ClosedQueries, count: u32, made: u32, moves: u32) -> Status
     }
 }
 
-/// What is left by a search that ended.
-fn finish(
-    alloc: Global,
-    decls: &Decls,
-    closed: &ClosedQueries,
-    trail: Vec<Entry>,
-    ending: Ending,
-    moves: u32,
-) -> Result<Walk, AllocError>
-    ensures trail { IfOk result (λ w. w.trail.items ≡ trail.items) }
-    ensures verdicts { IfOk result (λ w. w.verdicts.items
-        ≡ verdicts_by (sum_in closed.now) 1 (queries decls.now.list)) }
-    ensures status { IfOk result (λ w. w.status ≡ status_of moves ending
-        (first_unclosed (numbers_of closed.now) (length w.verdicts.items))) }
-{
-    let verdicts = verdicts_of(alloc, decls, closed)?;
-    let count = verdicts.as_slice().len() as u32;
-    let status = match ending {
-        Ending::Exhausted(made) => end_by(closed, count, made, moves),
-        Ending::Stopped(which) => Status::Limit(which),
-    };
-    Ok(Walk {
-        trail,
-        verdicts,
-        status,
-    })
-}
-
 /// How a search ends where a try comes to this, behind so many moves.
 fn ending_of(tried: Tried, made: u32) -> Option<Ending>
     ensures { result ≡ ending_by tried made }
 {
     match tried {
-        Tried::Accepted(_) | Tried::Refused => None,
+        Tried::Accepted(_, _) | Tried::Refused => None,
         Tried::Nothing => Some(Ending::Exhausted(made)),
         Tried::Passed(which) => Some(Ending::Stopped(which)),
     }
@@ -330,52 +289,123 @@ fn ending_of(tried: Tried, made: u32) -> Option<Ending>
 
 /// How many moves were made behind one try more.
 fn moves_behind(tried: Tried, made: u32) -> u32
-    requires { tried ≡ Tried.Accepted true → made + 1 < 2 ^ 32 }
+    requires { (step : Step) → tried ≡ Tried.Accepted step true → made + 1 < 2 ^ 32 }
     ensures { result ≡ made_behind tried made }
 {
     match tried {
-        Tried::Accepted(true) => made + 1,
+        Tried::Accepted(_, true) => made + 1,
         _ => made,
     }
 }
 
-/// Tries what the strategy proposes, with or without further moves, as long as it proposes something and no limit is passed, in at
-/// most so many moves.
-fn try_all(
+/// Puts the lines of a step that was taken, and gives back the games before the one that it leads to, where they aren't kept.
+pub(crate) fn go_on_behind<K: Sink>(
     alloc: Global,
     work: &mut Work,
     sequence: &mut Sequence,
-    trail: &mut Vec<Entry>,
+    tried: Tried,
+    mark: Mark,
+    stream: &mut Stream,
+    sink: &mut K,
+) -> Result<(), AllocError>
+    requires may { MayTry work.old sequence.old }
+    requires behind { IsBehind tried work.old sequence.old stream.old }
+    requires mark { mark.0 ≤ length work.old.pool.trees }
+    requires declared { All (IsBelow mark.0) work.old.decls.list }
+    ensures puts { OnOk result (PutsBehind tried work.old sequence.old (K.taken sink.old)
+        (K.taken sink.new) (K.faults sink.old) (K.faults sink.new) stream.old stream.new) }
+    ensures cut { OnErr result (CutsBehind tried work.old sequence.old (K.taken sink.old)
+        (K.taken sink.new) (K.faults sink.old) (K.faults sink.new) stream.old stream.new) }
+    ensures back { OnOk result (IsGivenBack mark.0 work.old work.new sequence.old sequence.new) }
+    ensures again { OnOk result (MayTry work.new sequence.new) }
+    ensures count { OnOk result (sequence.new.steps ≡ stream.new.steps) }
+    ensures stays { StaysUpTo mark.0 work.old.pool work.new.pool }
+    ensures names { work.new.names ≡ work.old.names }
+    ensures decls { work.new.decls ≡ work.old.decls }
+{
+    match tried {
+        Tried::Accepted(step, _) => go_on(alloc, work, sequence, step, mark, stream, sink),
+        _ => Ok(()),
+    }
+}
+
+/// Tries what the strategy proposes, with or without further moves, as long as it proposes something and no limit is passed, in at
+/// most so many moves; the lines of each step that is accepted are put.
+fn try_all<K: Sink>(
+    alloc: Global,
+    work: &mut Work,
+    sequence: &mut Sequence,
     moves: u32,
     goes_further: bool,
+    stream: &mut Stream,
+    sink: &mut K,
 ) -> Result<Ending, AllocError>
     requires below { All (IsBelow (length work.old.pool.trees)) work.old.decls.list }
-    requires begun { IsSearching work.old work.old (game_in work.old.pool.trees sequence.old) 0 moves
-        sequence.old trail.old.items }
-    ensures { IfOk result (HasEnded work.old work.new (game_in work.old.pool.trees sequence.old)
-        moves sequence.new trail.new.items) }
+    requires steps { sequence.old.steps ≡ stream.old.steps }
+    requires begun { IsSearching work.old work.old (game_in work.old.pool.trees sequence.old) 0
+        moves sequence.old (PutsCourse (K.taken sink.old) (K.taken sink.old) (K.faults sink.old)
+        (K.faults sink.old) work.old (game_in work.old.pool.trees sequence.old) stream.old
+        stream.old) }
+    ensures ended { IfOk result (HasEnded work.old work.new
+        (game_in work.old.pool.trees sequence.old) moves sequence.new
+        (PutsCourse (K.taken sink.old) (K.taken sink.new) (K.faults sink.old) (K.faults sink.new)
+        work.old (game_in work.old.pool.trees sequence.old) stream.old stream.new)) }
+    ensures cut { OnErr result (IsReached true work.old work.new
+        (game_in work.old.pool.trees sequence.old)
+        (PutsCourse (K.taken sink.old) (K.taken sink.new) (K.faults sink.old) (K.faults sink.new)
+        work.old (game_in work.old.pool.trees sequence.old) stream.old stream.new)) }
 {
+    let mark = work.pool.mark();
     let mut strategy = Strategy::new(goes_further);
     let mut made: u32 = 0;
     'tries: for _ in 0..u64::MAX {
-        let tried = attempt(alloc, work, sequence, trail, &mut strategy, made < moves)?;
+        let tried = attempt(alloc, work, sequence, &mut strategy, made < moves)?;
         match ending_of(tried, made) {
             Some(ending) => return Ok(ending),
             None => made = moves_behind(tried, made),
         }
+        go_on_behind(alloc, work, sequence, tried, mark, stream, sink)?;
     }
     Ok(Ending::Exhausted(made))
 }
 
-/// Searches for steps from a game on, in at most so many moves, with or without further ones. The names that steps draw stand behind
-/// the others.
-pub fn search(
+/// How a search ends, over a file with so many queries.
+fn end_of_ending(closed: &ClosedQueries, count: u32, ending: Ending, moves: u32) -> Status
+    ensures { result ≡ status_of moves ending (first_unclosed (numbers_of closed.now) count) }
+{
+    match ending {
+        Ending::Exhausted(made) => end_by(closed, count, made, moves),
+        Ending::Stopped(which) => Status::Limit(which),
+    }
+}
+
+/// What is left of a search that ended so.
+fn finish(alloc: Global, decls: &Decls, closed: &ClosedQueries, ending: Ending, moves: u32) -> Walk
+    ensures { IsStopped (sum_in closed.now) (queries decls.now.list)
+        (status_of moves ending (first_unclosed (numbers_of closed.now)
+        (length (queries decls.now.list)))) result }
+{
+    match verdicts_of(alloc, decls, closed) {
+        Ok(verdicts) => {
+            let count = verdicts.as_slice().len() as u32;
+            let status = end_of_ending(closed, count, ending, moves);
+            Walk { verdicts, status }
+        }
+        Err(_) => Walk::spent(alloc),
+    }
+}
+
+/// Searches for steps from a game on, in at most so many moves, with or without further ones, and puts the lines of each that is
+/// accepted. The names that steps draw stand behind the others.
+pub fn search<K: Sink>(
     alloc: Global,
     work: &mut Work,
     game: Game,
     moves: u32,
     goes_further: bool,
-) -> Result<Walk, AllocError>
+    stream: &mut Stream,
+    sink: &mut K,
+) -> Walk
     requires game { game.root.0 < length work.old.pool.trees }
     requires small { size (tree_at work.old.pool.trees (Some game.root)) ≤ 50000 }
     requires formed { IsWellFormed (declarations work.old.pool.trees work.old.decls.list)
@@ -383,11 +413,23 @@ pub fn search(
     requires below { All (IsBelow (length work.old.pool.trees)) work.old.decls.list }
     requires equivalences { HasEquivalences (scene_of work.old.pool work.old.decls game.root) }
     requires limit { work.old.pool.limit ≡ most_pool }
-    ensures { IfOk result (HasSearched work.old work.new
-        (tree_at work.old.pool.trees (Some game.root)) moves) }
+    requires steps { stream.old.steps ≡ 0 }
+    ensures { HasSearched work.old work.new (tree_at work.old.pool.trees (Some game.root)) moves
+        (PutsCourse (K.taken sink.old) (K.taken sink.new) (K.faults sink.old) (K.faults sink.new)
+        work.old (tree_at work.old.pool.trees (Some game.root)) stream.old stream.new) result }
 {
     let mut sequence = Sequence::start(alloc, game);
-    let mut trail = Vec::new(alloc);
-    let ending = try_all(alloc, work, &mut sequence, &mut trail, moves, goes_further)?;
-    finish(alloc, &work.decls, sequence.closed(), trail, ending, moves)
+    let ended = try_all(
+        alloc,
+        work,
+        &mut sequence,
+        moves,
+        goes_further,
+        stream,
+        sink,
+    );
+    match ended {
+        Ok(ending) => finish(alloc, &work.decls, sequence.closed(), ending, moves),
+        Err(_) => Walk::spent(alloc),
+    }
 }

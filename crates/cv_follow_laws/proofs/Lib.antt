@@ -1,5 +1,6 @@
 pub mod Names
 pub mod Fronts
+pub mod Tables
 pub mod Scripted
 pub mod Alike
 pub mod Printed

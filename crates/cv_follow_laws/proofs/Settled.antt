@@ -22,14 +22,16 @@ use Rattle.cv_report.specs.declared.report.Report.{Report}
 use Rattle.cv_report.specs.declared.report.Status.{Status}
 use Rattle.cv_report.specs.declared.report.Status.TheVariants as status
 use Rattle.cv_report.specs.declared.report.Which.TheVariants.{Depth, Nodes}
-use Rattle.cv_report.specs.Text.{end_text, text_of}
-use Rattle.cv_follow.specs.Scripts.{EndsScript, Stops, is_without_block, known_to, no_room, refused, too_deep, too_large, too_many}
+use Rattle.cv_report.specs.Text.{end_text}
+use Rattle.cv_follow.specs.Scripts.{EndsScript, Stops, is_without_block, no_room, refused, too_deep, too_large, too_many}
+use Rattle.cv_kernel.specs.Followed.{known_to}
+use Rattle.cv_follow.specs.Courses.{Course, names_behind}
 use Rattle.cv_follow.specs.Fillings.{has_word}
-use Rattle.cv_follow_laws.specs.Reports.{AreFound, AreFront, FollowsScript, HasDrawn, IsPlain, IsReportOf, IsSettled, Proceeds, block_of, file_in}
+use Rattle.cv_follow_laws.specs.Reports.{AreFound, AreFront, FollowsScript, IsPlain, IsReportOf, IsSettled, Proceeds, block_of, file_in, text_of}
 use Rattle.cv_follow_laws.proofs.Fronts.{proof_at}
 use Rattle.cv_follow_laws.proofs.Outcomes.{IsFixedSaying, one_saying}
 use Rattle.cv_follow_laws.proofs.Scripted.{front_is, same_is}
-use Rattle.cv_follow_laws.proofs.Alike.{apart, count_of, drawn, drawn_along, one_script, proceeds}
+use Rattle.cv_follow_laws.proofs.Alike.{IsIts, apart, drawn_along, its, one_script, proceeds}
 use Rattle.cv_follow_laws.proofs.Printed.{body_is}
 
 -- a settled run whose script stops before its end stops at a step of which one thing is said
@@ -106,44 +108,46 @@ module _ (c : Content) (unlike : NoRepeat c.names) where
 
   -- of a file with a proof block: two settled runs go equally far, and end alike
 
-  module _ (script : List Tree) (plain : has_word script ≡ false) (r q : Report) (w : FollowsScript r c script) (v : FollowsScript q c script) (d : HasDrawn r c) (e : HasDrawn q c) (h : IsSettled r.status) (k : IsSettled q.status) where
+  module _ (script : List Tree) (plain : has_word script ≡ false) (r q : Report) (j k : Course) (w : FollowsScript r c script j) (v : FollowsScript q c script k) (d : IsIts c j) (e : IsIts c k) (h : IsSettled r.status) (l : IsSettled q.status) where
     one_steps : w.steps ≡ v.steps
-    one_steps = one_script c script r q plain w v
+    one_steps = one_script c script r q j k plain w v
 
-    script_lengths : length w.took.proof ≡ length v.took.proof
+    abbrev after : Course → List (List ℕ)
+    after m = names_behind c.names m.tables
+
+    script_lengths : length j.proof ≡ length k.proof
     script_lengths =
-        elim (cases_order (length w.took.proof) (length v.took.proof)) [
+        elim (cases_order (length j.proof) (length k.proof)) [
           | inl same ↦ same
           | inr differ ↦ elim differ [
-            | inl less ↦ absurd (no_further (w.room + nodes_along c.declarations (known_to c.own) c.game w.took.proof) w.took.proof v.took.proof w.took.last v.took.last r.work.names q.work.names (queries_in c.declarations) w.left v.left r.status w.took.leads v.took.leads (drawn_along c r w.took d) (drawn_along c q v.took e) (sym w.split ∙ (one_steps ∙ v.split)) w.ends h less)
-            | inr more ↦ absurd (no_further (v.room + nodes_along c.declarations (known_to c.own) c.game v.took.proof) v.took.proof w.took.proof v.took.last w.took.last q.work.names r.work.names (queries_in c.declarations) v.left w.left q.status v.took.leads w.took.leads (drawn_along c q v.took e) (drawn_along c r w.took d) (sym v.split ∙ (sym one_steps ∙ w.split)) v.ends k more)
+            | inl less ↦ absurd (no_further (w.room + nodes_along c.declarations (known_to c.own) c.game j.proof) j.proof k.proof j.last k.last (after j) (after k) (queries_in c.declarations) w.ends.left v.ends.left r.status d.leads e.leads (drawn_along c j d) (drawn_along c k e) (sym w.ends.split ∙ (one_steps ∙ v.ends.split)) w.ends.ends h less)
+            | inr more ↦ absurd (no_further (v.room + nodes_along c.declarations (known_to c.own) c.game k.proof) k.proof j.proof k.last j.last (after k) (after j) (queries_in c.declarations) v.ends.left w.ends.left q.status e.leads d.leads (drawn_along c k e) (drawn_along c j d) (sym v.ends.split ∙ (sym one_steps ∙ w.ends.split)) v.ends.ends l more)
           ]
         ]
 
-    script_same : w.took.proof ≡ v.took.proof
-    script_same = (same_is c unlike w.took.proof v.took.proof w.took.last v.took.last r.work.names q.work.names w.left v.left w.took.leads v.took.leads (drawn_along c r w.took d) (drawn_along c q v.took e) (sym w.split ∙ (one_steps ∙ v.split)) script_lengths).0
+    script_same : j.proof ≡ k.proof
+    script_same = (same_is c unlike j.proof k.proof j.last k.last (after j) (after k) w.ends.left v.ends.left d.leads e.leads (drawn_along c j d) (drawn_along c k e) (sym w.ends.split ∙ (one_steps ∙ v.ends.split)) script_lengths).0
 
-    script_left : w.left ≡ v.left
-    script_left = append_cancel_left (steps w.took.proof) w.left v.left (sym w.split ∙ (one_steps ∙ (v.split ∙ ap (λ xs. steps xs ++ v.left) (sym script_same))))
+    script_left : w.ends.left ≡ v.ends.left
+    script_left = append_cancel_left (steps j.proof) w.ends.left v.ends.left (sym w.ends.split ∙ (one_steps ∙ (v.ends.split ∙ ap (λ xs. steps xs ++ v.ends.left) (sym script_same))))
 
     script_ends : r.status ≡ q.status
     script_ends =
-        let room : ℕ = v.room + nodes_along c.declarations (known_to c.own) c.game v.took.proof in
-        let last : v.took.last ≡ w.took.last = one_end v.took.proof w.took.proof v.took.last w.took.last v.took.leads w.took.leads (sym script_same) in
-        let one : EndsScript room (length w.took.proof) (here v.took.last) (closed_by w.took.proof) (queries_in c.declarations) v.left q.status = subst (λ xs. EndsScript room (length xs) (here v.took.last) (closed_by xs) (queries_in c.declarations) v.left q.status) (sym script_same) v.ends in
-        let two : EndsScript room (length w.took.proof) (here w.took.last) (closed_by w.took.proof) (queries_in c.declarations) v.left q.status = subst (λ x. EndsScript room (length w.took.proof) (here x) (closed_by w.took.proof) (queries_in c.declarations) v.left q.status) last one in
-        let three : EndsScript room (length w.took.proof) (here w.took.last) (closed_by w.took.proof) (queries_in c.declarations) w.left q.status = subst (λ xs. EndsScript room (length w.took.proof) (here w.took.last) (closed_by w.took.proof) (queries_in c.declarations) xs q.status) (sym script_left) two in
-        ends_alike (w.room + nodes_along c.declarations (known_to c.own) c.game w.took.proof) room (length w.took.proof) (here w.took.last) (closed_by w.took.proof) (queries_in c.declarations) w.left r.status q.status w.ends three h k
+        let room : ℕ = v.room + nodes_along c.declarations (known_to c.own) c.game k.proof in
+        let last : k.last ≡ j.last = one_end k.proof j.proof k.last j.last e.leads d.leads (sym script_same) in
+        let one : EndsScript room (length j.proof) (here k.last) (closed_by j.proof) (queries_in c.declarations) v.ends.left q.status = subst (λ xs. EndsScript room (length xs) (here k.last) (closed_by xs) (queries_in c.declarations) v.ends.left q.status) (sym script_same) v.ends.ends in
+        let two : EndsScript room (length j.proof) (here j.last) (closed_by j.proof) (queries_in c.declarations) v.ends.left q.status = subst (λ x. EndsScript room (length j.proof) (here x) (closed_by j.proof) (queries_in c.declarations) v.ends.left q.status) last one in
+        let three : EndsScript room (length j.proof) (here j.last) (closed_by j.proof) (queries_in c.declarations) w.ends.left q.status = subst (λ xs. EndsScript room (length j.proof) (here j.last) (closed_by j.proof) (queries_in c.declarations) xs q.status) (sym script_left) two in
+        ends_alike (w.room + nodes_along c.declarations (known_to c.own) c.game j.proof) room (length j.proof) (here j.last) (closed_by j.proof) (queries_in c.declarations) w.ends.left r.status q.status w.ends.ends three h l
 
-  module _ (r q : Report) where
-    lengths_by : (o : Option (List Tree)) → IsPlain o → Proceeds r c o → Proceeds q c o → HasDrawn r c → HasDrawn q c → IsSettled r.status → IsSettled q.status → length r.trail.items ≡ length q.trail.items
-    lengths_by None n w v d e h k = absurd n
-    lengths_by (Some script) n w v d e h k =
-        count_of c r w.took ∙ (script_lengths script n r q w v d e h k ∙ sym (count_of c q v.took))
+  module _ (r q : Report) (j k : Course) where
+    lengths_by : (o : Option (List Tree)) → IsPlain o → Proceeds r c j o → Proceeds q c k o → IsIts c j → IsIts c k → IsSettled r.status → IsSettled q.status → length j.proof ≡ length k.proof
+    lengths_by None n w v d e h l = absurd n
+    lengths_by (Some script) n w v d e h l = script_lengths script n r q j k w v d e h l
 
-    ends_by : (o : Option (List Tree)) → IsPlain o → Proceeds r c o → Proceeds q c o → HasDrawn r c → HasDrawn q c → IsSettled r.status → IsSettled q.status → r.status ≡ q.status
-    ends_by None n w v d e h k = absurd n
-    ends_by (Some script) n w v d e h k = script_ends script n r q w v d e h k
+    ends_by : (o : Option (List Tree)) → IsPlain o → Proceeds r c j o → Proceeds q c k o → IsIts c j → IsIts c k → IsSettled r.status → IsSettled q.status → r.status ≡ q.status
+    ends_by None n w v d e h l = absurd n
+    ends_by (Some script) n w v d e h l = script_ends script n r q j k w v d e h l
 
 -- of a proof block without the word nothing is asked
 
@@ -151,13 +155,13 @@ plain_found : (o : Option (List Tree)) → IsPlain o → AreFound o → ⊥
 plain_found None n f = n
 plain_found (Some script) n f = (let e = sym n ∙ f in cc)
 
-none_asked : (r q : Report) → IsPlain (block_of r) → AreFront r q
-none_asked r q n = λ f. absurd (plain_found (block_of r) n f)
+none_asked : (r : Report) (j k : Course) → IsPlain (block_of r) → AreFront r j k
+none_asked r j k n = λ f. absurd (plain_found (block_of r) n f)
 
-pub one_text : (source : Given) (r q : Report) (f g : File) → IsReportOf source r f → IsReportOf source q g → IsPlain (block_of r) → IsSettled r.status → IsSettled q.status → text_of r ≡ text_of q
-one_text source r q f g w v s h k =
+pub one_text : (source : Given) (r q : Report) (f g : File) (w : IsReportOf source r f) (v : IsReportOf source q g) → IsPlain (block_of r) → IsSettled r.status → IsSettled q.status → text_of r f w.names w.course ≡ text_of q g v.names v.course
+one_text source r q f g w v s h l =
     let c : Content = file_in r f w.names in
     let goes = proceeds source r q f g w v in
-    let draws = drawn source r q f g w v in
-    ap₂ ◌++◌ (body_is source r q f g w v (none_asked r q s) (lengths_by c (apart source r q f g w v) r q c.script s w.follows goes w.drawn draws h k))
-    (ap end_text (ends_by c (apart source r q f g w v) r q c.script s w.follows goes w.drawn draws h k))
+    let it = its source r q f g w v in
+    ap₂ ◌++◌ (body_is source r q f g w v (none_asked r w.course v.course s) (lengths_by c (apart source r q f g w v) r q w.course v.course c.script s w.follows goes w.is it h l))
+    (ap end_text (ends_by c (apart source r q f g w v) r q w.course v.course c.script s w.follows goes w.is it h l))

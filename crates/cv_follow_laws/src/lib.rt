@@ -10,8 +10,7 @@ ghost use Rattle.cv_accept.specs.Accepted.{Content, IsFile};
 ghost use Rattle.cv_kernel.specs.Drawings.{DrawsAlong, told};
 ghost use Rattle.cv_kernel.specs.Proofs.{IsProof, Transition};
 ghost use Rattle.cv_report.specs.declared.report.Report.{Report};
-ghost use Rattle.cv_report.specs.Text.{body_text, text_of};
-ghost use Rattle.cv_follow_laws.specs.Reports.{AreFront, IsPlain, IsReportOf, IsSettled, block_of, file_in, said_along};
+ghost use Rattle.cv_follow_laws.specs.Reports.{AreFront, IsPlain, IsReportOf, IsSettled, block_of, body_text, file_in, text_of};
 
 /// No text stands twice among the names of a file, those of its proof block included, and a source is one file at most.
 pub fn names_of_files_stand_once()
@@ -34,26 +33,27 @@ pub fn a_file_and_its_steps_fix_the_games()
         → (ts ≡ us) × (after ≡ other) }
 {}
 
-/// Two reports on the same source with equally many steps have the same names, say the same along their trails and of
-/// the queries, and have one text but for the last line. Where one has fewer steps, its trail is the front of the
-/// other's. Without a proof block, or where it has the word `simplify`, it is so of reports that found the same steps. How
-/// many of the names are the file's is told by the source.
+/// Two reports on the same source with equally many steps have one course, the same names, say the same of the queries, and
+/// have one text but for the last line. Where one has fewer steps, they are the first of the other's. Without a proof block, or where it has
+/// the word `simplify`, it is so of reports that found the same steps. How many of the names are the file's is told by the source.
 pub fn reports_of_a_file_say_the_same()
-    ensures trail { (source : Given) (r q : Report) (f g : File) → IsReportOf source r f
-        → IsReportOf source q g → AreFront r q → length r.trail.items ≡ length q.trail.items
-        → said_along r ≡ said_along q }
-    ensures front { (source : Given) (r q : Report) (f g : File) → IsReportOf source r f
-        → IsReportOf source q g → AreFront r q → length r.trail.items ≤ length q.trail.items
-        → said_along r ≡ take (length r.trail.items) (said_along q) }
-    ensures names { (source : Given) (r q : Report) (f g : File) → IsReportOf source r f
-        → IsReportOf source q g → AreFront r q → length r.trail.items ≡ length q.trail.items
-        → r.work.names ≡ q.work.names }
-    ensures verdicts { (source : Given) (r q : Report) (f g : File) → IsReportOf source r f
-        → IsReportOf source q g → AreFront r q → length r.trail.items ≡ length q.trail.items
-        → r.verdicts.items ≡ q.verdicts.items }
-    ensures text { (source : Given) (r q : Report) (f g : File) → IsReportOf source r f
-        → IsReportOf source q g → AreFront r q → length r.trail.items ≡ length q.trail.items
-        → body_text r r.file ≡ body_text q q.file }
+    ensures course { (source : Given) (r q : Report) (f g : File) (w : IsReportOf source r f)
+        (v : IsReportOf source q g) → AreFront r w.course v.course
+        → length w.course.proof ≡ length v.course.proof → w.course ≡ v.course }
+    ensures front { (source : Given) (r q : Report) (f g : File) (w : IsReportOf source r f)
+        (v : IsReportOf source q g) → AreFront r w.course v.course
+        → length w.course.proof ≤ length v.course.proof
+        → w.course.proof ≡ take (length w.course.proof) v.course.proof }
+    ensures names { (source : Given) (r q : Report) (f g : File) (w : IsReportOf source r f)
+        (v : IsReportOf source q g) → AreFront r w.course v.course
+        → length w.course.proof ≡ length v.course.proof → r.work.names ≡ q.work.names }
+    ensures verdicts { (source : Given) (r q : Report) (f g : File) (w : IsReportOf source r f)
+        (v : IsReportOf source q g) → AreFront r w.course v.course
+        → length w.course.proof ≡ length v.course.proof → r.verdicts.items ≡ q.verdicts.items }
+    ensures text { (source : Given) (r q : Report) (f g : File) (w : IsReportOf source r f)
+        (v : IsReportOf source q g) → AreFront r w.course v.course
+        → length w.course.proof ≡ length v.course.proof
+        → body_text r f w.names w.course ≡ body_text q g v.names v.course }
     ensures file { (source : Given) (r q : Report) (f g : File) (w : IsReportOf source r f)
         (v : IsReportOf source q g) → file_in r f w.names ≡ file_in q g v.names }
 {}
@@ -61,7 +61,7 @@ pub fn reports_of_a_file_say_the_same()
 /// So two runs on the same source with a proof block without the word print one text, where each ends by the verdicts on its queries, by the
 /// end of the block, by a limit of a game, or by a condition of a step other than 9.
 pub fn settled_reports_are_one()
-    ensures { (source : Given) (r q : Report) (f g : File) → IsReportOf source r f
-        → IsReportOf source q g → IsPlain (block_of r) → IsSettled r.status → IsSettled q.status
-        → text_of r ≡ text_of q }
+    ensures { (source : Given) (r q : Report) (f g : File) (w : IsReportOf source r f)
+        (v : IsReportOf source q g) → IsPlain (block_of r) → IsSettled r.status → IsSettled q.status
+        → text_of r f w.names w.course ≡ text_of q g v.names v.course }
 {}

@@ -10,7 +10,8 @@ use Rattle.cv_script.specs.Views.{StepItems, items_of_step}
 use Rattle.cv_script.specs.Views as items
 use Rattle.cv_steps.specs.Sequences.{scene}
 use Rattle.cv_kernel.specs.Closings.{Closing, closing_failure, closing_of_items, judgement_by_closing, judgement_of_failure}
-use Rattle.cv_kernel.specs.Drawings.{Draws, DrawsAlong, DrawsBefore, game_after, told}
+use Rattle.cv_kernel.specs.Drawings.{Draws, DrawsAlong, game_after, told}
+use Rattle.cv_rule_array_names.specs.Drawings.{DrawsBefore}
 use Rattle.cv_kernel.specs.Proofs.{IsProof, Transition, closed_by, game_behind, push, start}
 use Rattle.cv_kernel.specs.Sayings.{Accepted, MaySay, saying_of}
 

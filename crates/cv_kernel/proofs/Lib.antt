@@ -12,3 +12,8 @@ mod StepAnswers
 pub mod Pushes
 mod Reduced
 pub mod Drawn
+pub mod Marks
+pub mod Walked
+pub mod Closings
+pub mod StepKinds
+pub mod Followed

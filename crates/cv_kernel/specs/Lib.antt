@@ -9,3 +9,5 @@ pub mod Reducings
 pub mod Sequences
 pub mod Proofs
 pub mod Drawings
+pub mod Keeping
+pub mod Followed

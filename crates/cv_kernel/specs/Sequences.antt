@@ -83,6 +83,14 @@ pub record Same (old new : Sequence) : Type 0 where
   pub context : new.context ≡ old.context
   pub closed : new.closed ≡ old.closed
 
+-- the same steps led to the last game, which may stand elsewhere
+pub record SameBehind (old new : Sequence) : Type 0 where
+  pub steps : new.steps ≡ old.steps
+  pub cost : new.cost ≡ old.cost
+  pub sum : new.sum ≡ old.sum
+  pub context : new.context ≡ old.context
+  pub closed : new.closed ≡ old.closed
+
 -- how many nodes a step may add: one with a rule what the rule draws, and a cryptographic one its context and its next game
 
 abbrev pub needed : (game step : Tree) → ℕ

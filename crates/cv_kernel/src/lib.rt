@@ -5,6 +5,7 @@ mod applying;
 mod closing;
 mod elementary;
 mod error;
+mod keeping;
 mod places;
 mod planning;
 mod reducing;

@@ -10,15 +10,17 @@ ghost use Rattle.cv_kernel_crypto.specs.Applied.{DrawsNext, HasEquivalences};
 ghost use Rattle.cv_bound.specs.closings.Queries.{numbers_of};
 ghost use Rattle.cv_kernel.specs.ClosingTrees.{closing_tree};
 ghost use Rattle.cv_kernel.specs.Closings.{closing_failure};
+ghost use Rattle.cv_kernel.specs.Keeping.{IsFreed, StaysUpTo};
 ghost use Rattle.cv_kernel.specs.Reducings.{reducing_in};
 ghost use Rattle.cv_kernel.specs.Rules.{needed_by, rule_of_items};
-ghost use Rattle.cv_kernel.specs.Sequences.{IsAdvanced, IsCloseAnswer, IsPushed, IsReady, IsReduceAnswer, Same, Stands, game_in, needed_for};
+ghost use Rattle.cv_kernel.specs.Sequences.{IsAdvanced, IsCloseAnswer, IsPushed, IsReady, IsReduceAnswer, Same, SameBehind, Stands, game_in, needed_for};
 ghost use Rattle.cv_kernel.specs.Steps.{AreShort};
 ghost use Rattle.cv_syntax.specs.limits.Limits.{nodes_of};
 
 use crate::applying::attempt;
 use crate::closing::{Closing, closing_by, is_secret};
 use crate::error::{PushError, Refusal};
+use crate::keeping::keep_game;
 use crate::reducing::{Reducing, reducing_by};
 use cv_bound::Cost;
 use cv_bound::closings::ClosedQueries;
@@ -31,7 +33,7 @@ use cv_kernel_crypto::{Basis, apply, plan};
 use cv_query::check;
 use cv_query::kinds::query_numbered;
 use cv_script::{Step, StepView, view};
-use cv_syntax::{Game, Work};
+use cv_syntax::{Game, Mark, Work};
 use cv_typing::Arrays;
 use std::alloc::{AllocError, Global};
 
@@ -125,6 +127,34 @@ impl Sequence {
         ensures same { Same self.old self.new }
     {
         self.arrays = None;
+    }
+
+    /// Gives back the games before the last one, and what else stands in the pool behind a mark, where there is much of it; the last
+    /// game has another node then, and what was looked up in it is forgotten. Without memory the game is lost.
+    pub fn keep(&mut self, alloc: Global, work: &mut Work, mark: Mark) -> Result<(), AllocError>
+        requires stands { Stands work.old.pool.trees work.old.decls self.old }
+        requires declared { All (IsLive mark.0) work.old.decls.list }
+        requires mark { mark.0 ≤ length work.old.pool.trees }
+        requires limit { work.old.pool.limit < 4294967295 }
+        ensures stays { StaysUpTo mark.0 work.old.pool work.new.pool }
+        ensures game { OnOk result (game_in work.new.pool.trees self.new
+            ≡ game_in work.old.pool.trees self.old) }
+        ensures stands { OnOk result (Stands work.new.pool.trees work.new.decls self.new) }
+        ensures same { OnOk result (SameBehind self.old self.new) }
+        ensures empty { self.old.arrays ≡ None → self.new.arrays ≡ None }
+        ensures few { length work.new.pool.trees ≤ length work.old.pool.trees }
+        ensures freed { OnOk result (IsFreed mark.0 (game_in work.old.pool.trees self.old)
+            work.new.pool) }
+        ensures names { work.new.names ≡ work.old.names }
+        ensures decls { work.new.decls ≡ work.old.decls }
+    {
+        let game = self.game.root;
+        let Some(root) = keep_game(alloc, &mut work.pool, mark, game)? else {
+            return Ok(());
+        };
+        self.game = Game { root };
+        self.arrays = None;
+        Ok(())
     }
 
     /// Looks up what there is to read in the game.

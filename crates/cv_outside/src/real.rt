@@ -1,4 +1,4 @@
-ghost use Rattle.std.specs.Prelude.{◌≡◌, ◌≤◌, [], ℕ, List, Option, None, length, map, take, IfOk, IfSome, string_bytes};
+ghost use Rattle.std.specs.Prelude.{◌≡◌, ◌<◌, ◌≤◌, [], ℕ, List, OnErr, OnOk, Option, None, length, map, take, IfOk, IfSome, string_bytes};
 ghost use Rattle.cv_outside.specs.Causes.{next_count};
 
 use crate::shelf::{FetchError, Shelf, note};
@@ -69,19 +69,71 @@ impl<'a, R: Files> Shelf for FileShelf<'a, R> {
     }
 }
 
-/// Standard output, of whose content nothing is told.
+/// How many bytes standard output keeps back at most.
+const MOST_KEPT: usize = 65_536;
+
+/// Writes a text piece by piece, as much of each as goes.
+fn write_all<R: Print>(rt: &R, text: &[u8]) -> Result<(), PutError> {
+    let mut done = 0;
+    'pieces: while done < text.len() {
+        match rt.write_some(&text[done..]) {
+            Ok(count) if count > 0 => done += count,
+            _ => return Err(PutError::Failed),
+        }
+    }
+    Ok(())
+}
+
+/// Standard output, of whose content nothing is told. What is put is kept back until there is much of it, or it is flushed; without
+/// memory for that each piece is written at once.
 #[derive(Drop)]
 pub struct OutSink<'a, R: Print> {
     rt: &'a R,
+    kept: Vec<u8>,
     faults: u64,
 }
 
 impl<'a, R: Print> OutSink<'a, R> {
-    /// Standard output, with no fault yet.
-    pub fn new(rt: &'a R) -> OutSink<'a, R>
+    /// Standard output, with no fault yet. It takes no memory before its first call.
+    pub fn new(alloc: Global, rt: &'a R) -> OutSink<'a, R>
         ensures { ⟦<OutSink<'a, R> as Sink>⟧.faults result ≡ 0 }
     {
-        OutSink { rt, faults: 0 }
+        OutSink {
+            rt,
+            kept: Vec::new(alloc),
+            faults: 0,
+        }
+    }
+
+    /// Writes a front of a piece.
+    fn write_front(&mut self, piece: &[u8]) -> Result<usize, PutError>
+        requires { 0 < length piece.now }
+        ensures count { IfOk result (λ n. (0 < n) × (n ≤ length piece.now)) }
+        ensures same { OnOk result (self.new.faults ≡ self.old.faults) }
+        ensures failed { OnErr result (self.new.faults ≡ next_count self.old.faults) }
+        ensures later { self.old.faults ≤ self.new.faults }
+    {
+        match self.rt.write_some(piece) {
+            Ok(count) if count > 0 => Ok(count),
+            _ => {
+                self.faults = self.faults.saturating_add(1);
+                Err(PutError::Failed)
+            }
+        }
+    }
+
+    /// Writes all that was kept back. What is left at a fault is lost.
+    fn write_kept(&mut self) -> Result<(), PutError>
+        ensures same { OnOk result (self.new.faults ≡ self.old.faults) }
+        ensures failed { OnErr result (self.new.faults ≡ next_count self.old.faults) }
+        ensures later { self.old.faults ≤ self.new.faults }
+    {
+        let written = write_all(self.rt, &self.kept);
+        self.kept.clear();
+        if written.is_err() {
+            self.faults = self.faults.saturating_add(1);
+        }
+        written
     }
 }
 
@@ -94,12 +146,16 @@ impl<'a, R: Print> Sink for OutSink<'a, R> {
         if piece.is_empty() {
             return Ok(0);
         }
-        match self.rt.write_some(piece) {
-            Ok(count) if count > 0 => Ok(count),
-            _ => {
-                self.faults = self.faults.saturating_add(1);
-                Err(PutError::Failed)
-            }
+        if piece.len() <= MOST_KEPT.saturating_sub(self.kept.len())
+            && self.kept.extend_from_slice(piece).is_ok()
+        {
+            return Ok(piece.len());
         }
+        self.write_kept()?;
+        self.write_front(piece)
+    }
+
+    fn flush(&mut self) -> Result<(), PutError> {
+        self.write_kept()
     }
 }

@@ -32,6 +32,14 @@ pub trait Sink {
 
         ensures later { faults self.old ≤ faults self.new }
         ensures failed { IsErrOf result PutError.Failed → Rose (faults self.old) (faults self.new) };
+
+    /// Hands on what was taken and is still kept back.
+    fn flush(&mut self) -> Result<(), PutError>
+        ensures tells { IsSome (taken self.new) → IsSome (taken self.old) }
+        ensures same { Takes (taken self.old) (taken self.new) [] }
+
+        ensures later { faults self.old ≤ faults self.new }
+        ensures failed { OnErr result (Rose (faults self.old) (faults self.new)) };
 }
 
 /// Bytes in memory. The calls with the numbers in `failing`, from 1 on, fail.
@@ -109,6 +117,17 @@ impl Sink for MemSink {
         self.bytes.extend_from_slice(&piece[..count]).unwrap();
         Ok(count)
     }
+
+    fn flush(&mut self) -> Result<(), PutError>
+        ensures ok { result ≡ Ok tt }
+        ensures room { room_of self.new ≡ room_of self.old }
+        ensures failing { failing_of self.new ≡ failing_of self.old }
+        ensures calls { calls_of self.new ≡ calls_of self.old }
+        ensures taken { taken_of self.new ≡ taken_of self.old }
+        ensures faults { faults_of self.new ≡ faults_of self.old }
+    {
+        Ok(())
+    }
 }
 
 /// Bytes in memory that never fail to be taken. Those past the room are counted and not kept, and
@@ -163,5 +182,15 @@ impl Sink for SureSink {
         self.bytes.extend_from_slice(front).unwrap();
         self.beyond = self.beyond.saturating_add(rest.len() as u64);
         Ok(piece.len())
+    }
+
+    fn flush(&mut self) -> Result<(), PutError>
+        ensures ok { result ≡ Ok tt }
+        ensures room { sure_room_of self.new ≡ sure_room_of self.old }
+        ensures left { sure_left_of self.new ≡ sure_left_of self.old }
+        ensures beyond { beyond_of self.new ≡ beyond_of self.old }
+        ensures told { told_of self.new ≡ told_of self.old }
+    {
+        Ok(())
     }
 }

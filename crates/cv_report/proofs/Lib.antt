@@ -1,3 +1,4 @@
 pub mod Counts
 pub mod Takes
+pub mod Streams
 pub mod Texts

@@ -64,8 +64,6 @@ front_more a None xs ys h = tt
 front_more None (Some y) xs ys h = tt
 front_more (Some x) (Some y) xs ys h = let s = front_shorter xs ys h.0 in (s.0, h.1 ∙ ap (λ z. x ++ z) s.1)
 
-pub ruleset texts = (all_then, front_then, front_more)
-
 take_take : (m n : ℕ) (xs : List ℕ) → (k : ℕ) × (take m (take n xs) ≡ take k xs)
 take_take zero n xs = (zero, nothing n xs)
   where
@@ -90,3 +88,17 @@ front_line (Some x) (Some y) (Some z) p i n m t h k =
     (i + s.0, k.1 ∙ (ap (λ l. y ++ take k.0 l) r.1 ∙ (ap (λ l. y ++ l) s.1 ∙ (ap (λ l. l ++ take s.0 (drop i p)) h ∙ (append_assoc x (take i p) (take s.0 (drop i p)) ∙ ap (λ l. x ++ l) (sym (take-add i s.0 p)))))))
 
 pub ruleset lines = (takes_none, takes_whole, front_line, takes_slice)
+
+-- a text that was taken, and handed on
+pub all_stays : (a b c : Option (List ℕ)) (p : List ℕ) → (IsSome c → IsSome b) → TakesAll a b p → Takes b c [] → TakesAll a c p
+all_stays a b None p t h k = tt
+all_stays None b (Some z) p t h k = tt
+all_stays (Some x) None (Some z) p t h k = absurd (let f : IsSome {T = List ℕ} None = t refl in cc)
+all_stays (Some x) (Some y) (Some z) p t h k = k ∙ (append-nil y ∙ h)
+
+pub front_all : (a b : Option (List ℕ)) (p : List ℕ) → TakesAll a b p → TakesFront a b p
+front_all a None p h = tt
+front_all None (Some y) p h = tt
+front_all (Some x) (Some y) p h = (length p, h ∙ ap (λ s. x ++ s) (sym (take-length p)))
+
+pub ruleset handed = (all_stays, front_all)

@@ -1,7 +1,9 @@
 pub mod Codes
+pub mod Lines
 pub mod Printed
 pub mod Text
 pub mod Writing
 pub mod contexts
 pub mod verdicts
 pub mod outcome
+pub mod Streams

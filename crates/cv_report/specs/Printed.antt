@@ -1,5 +1,5 @@
 -- What is printed of a report, by its command. This profile's own.
-use Rattle.std.specs.Prelude.{ℕ, ◌+◌, ◌-◌, ◌^◌, min, true, false, List, [], ◌∷◌, ◌++◌, codes, length, Option, Some, None}
+use Rattle.std.specs.Prelude.{ℕ, ◌+◌, ◌-◌, ◌^◌, ◌&&◌, Bool, min, true, false, is_some, List, [], ◌∷◌, ◌++◌, codes, length, Option, Some, None}
 use Rattle.std.specs.Fmt.{decimal}
 use Rattle.cv_outside.specs.Causes.{next_count}
 use Rattle.cv_outside.specs.words.sample.Samples.{file_of}
@@ -11,7 +11,9 @@ use Rattle.cv_report.specs.declared.report.Status.{Status}
 use Rattle.cv_report.specs.declared.report.Status.TheVariants as status
 use Rattle.cv_report.specs.declared.report.Verdict.{Verdict}
 use Rattle.cv_report.specs.declared.report.Verdict.TheVariants.{NotProved, Proved}
-use Rattle.cv_report.specs.Text.{end_text, games_text, text_of}
+use Rattle.cv_report.specs.Lines.{Lines, shown_text}
+use Rattle.cv_report.specs.Streams.{is_streamed}
+use Rattle.cv_report.specs.Text.{end_text, verdicts_text}
 
 -- how many queries are proved, and how many terms their sums have together; a count stops at the greatest u64
 
@@ -23,30 +25,43 @@ unfoldable pub counted : ℕ × ℕ → List Verdict → ℕ × ℕ
 counted c [] = c
 counted c (v ∷ vs) = counted (counted_with c v) vs
 
--- `games` prints no verdicts
-abbrev pub shown_text : Report → Option File → List ℕ
-shown_text r None = []
-shown_text r (Some f) = games_text r f
-
 abbrev pub counts_text : (number : ℕ) → ℕ × ℕ → List ℕ
 counts_text n c = codes "sample " ++ decimal n ++ codes "\nproved " ++ decimal c.0 ++ codes "\nterms " ++ decimal c.1 ++ codes "\n"
 
--- the counts of a sample of which a proof was asked; without a file the end line alone
+-- the counts of a sample of which a proof was asked; without a file, or where memory ran out, the end line alone
+
+abbrev pub counts_by : (number : ℕ) → Report → Status → List ℕ
+counts_by n r status.Memory = end_text status.Memory
+counts_by n r s = counts_text n (counted (0, 0) r.verdicts.items)
+
 abbrev pub summary_text : (number : ℕ) → Report → Option File → List ℕ
 summary_text n r None = end_text r.status
-summary_text n r (Some f) = counts_text n (counted (0, 0) r.verdicts.items)
+summary_text n r (Some f) = counts_by n r r.status
 
 -- the text of a sample, which has no end line
 abbrev pub sample_text : (number : ℕ) → Status → List ℕ
 sample_text n status.Done = file_of n
 sample_text n s = end_text s
 
-abbrev pub printed_by : Command → Report → List ℕ
-printed_by (Prove moves more) r = text_of r
-printed_by Games r = shown_text r r.file ++ end_text r.status
-printed_by (Sample n true) r = summary_text n r r.file
-printed_by (Sample n false) r = sample_text n r.status
-printed_by Nothing r = text_of r
+-- the verdicts on the queries of a file, and the end line
+abbrev pub verdicts_and_end : Report → List ℕ
+verdicts_and_end r = verdicts_text r.work.names 1 r.verdicts.items ++ end_text r.status
 
-abbrev pub printed : Report → List ℕ
-printed r = printed_by r.command r
+-- what is printed behind the lines of games and steps; `games` prints no verdicts
+abbrev pub rest_by : Command → Report → List ℕ
+rest_by (Prove moves more) r = verdicts_and_end r
+rest_by Games r = end_text r.status
+rest_by (Sample n true) r = summary_text n r r.file
+rest_by (Sample n false) r = sample_text n r.status
+rest_by Nothing r = verdicts_and_end r
+
+abbrev pub rest_text : Report → List ℕ
+rest_text r = rest_by r.command r
+
+-- the lines of games and steps are shown where there is a file, unless it is a sample
+abbrev pub is_shown : Report → Bool
+is_shown r = is_streamed r.command && is_some r.file
+
+-- What is printed of a report whose file has these lines of games and steps.
+abbrev pub printed : Report → Lines → List ℕ
+printed r l = shown_text (is_shown r) l ++ rest_text r

@@ -1,14 +1,9 @@
 -- The text of a report.
-use Rattle.std.specs.Prelude.{ℕ, ◌+◌, ◌<◌, List, [], ◌∷◌, ◌++◌, codes, if◌then◌else◌, length, All, Option, Some, None, is_some, option_map, IfSome}
+use Rattle.std.specs.Prelude.{ℕ, ◌+◌, ◌<◌, List, [], ◌∷◌, ◌++◌, codes, length, Some, option_map, IfSome}
 use Rattle.std.specs.Fmt.{decimal}
-use Rattle.cv_syntax.specs.declared.work.File.{File}
-use Rattle.cv_syntax.specs.declared.work.Game.{Game}
-use Rattle.cv_pool.specs.KindTree.{KindTree}
+use Rattle.cv_syntax.specs.declared.work.Work.{Work}
 use Rattle.cv_syntax.specs.PoolTrees.{tree_at}
-use Rattle.cv_print.specs.Games.{game_text}
-use Rattle.cv_script.specs.Text.{step_text}
-use Rattle.cv_bound.specs.Texts.{listed_text, sum_text}
-use Rattle.cv_bound.specs.declared.cost.Cost.{Cost}
+use Rattle.cv_bound.specs.Texts.{sum_text}
 use Rattle.cv_context.specs.products.ShapesInCode.{shape_in}
 use Rattle.cv_lex.specs.declared.LexError.{LexError}
 use Rattle.cv_lex.specs.declared.LexError.TheVariants as lex
@@ -35,31 +30,7 @@ use Rattle.cv_report.specs.declared.report.Entry.{Entry}
 use Rattle.cv_report.specs.declared.report.Verdict.{Verdict}
 use Rattle.cv_report.specs.declared.report.Verdict.TheVariants.{Proved, NotProved}
 use Rattle.cv_report.specs.declared.report.Which.TheVariants.{File as FileLimit, Tokens, Nodes, Depth, Steps, Pool}
-use Rattle.cv_report.specs.contexts.Contexts.{context_text}
-use Rattle.cv_costs.specs.Factors.{parameters_in}
-
--- the line of a step's cost
-abbrev pub cost_text : List (List ℕ) → Cost → List ℕ
-cost_text names c = codes "cost " ++ listed_text names c ++ codes "\n"
-
--- the game that a step leads to, with its number
-abbrev pub next_text : List (List ℕ) → List KindTree → ℕ → Option Game → List ℕ
-next_text names trees g None = []
-next_text names trees g (Some game) = codes "game " ++ decimal g ++ codes "\n" ++ game_text names (tree_at trees (Some game.root))
-
--- the k-th step, with its cost and its context, and the game that it leads to, which would be the g-th
-abbrev pub entry_text : List (List ℕ) → (order : List ℕ) → List KindTree → (k g : ℕ) → Entry → List ℕ
-entry_text names order trees k g e =
-    codes "step " ++ decimal k ++ codes ": " ++ step_text names (tree_at trees (Some e.step.0)) ++ codes ";\n"
-    ++ cost_text names e.cost ++ context_text names order k (option_map shape_in e.context) ++ next_text names trees g e.next
-
--- the number of the next game
-abbrev pub games_after : ℕ → Entry → ℕ
-games_after g e = if is_some e.next then g + 1 else g
-
-unfoldable pub trail_text : List (List ℕ) → (order : List ℕ) → List KindTree → (k g : ℕ) → List Entry → List ℕ
-trail_text names order trees k g [] = []
-trail_text names order trees k g (e ∷ es) = entry_text names order trees k g e ++ trail_text names order trees (k + 1) (games_after g e) es
+use Rattle.cv_report.specs.Lines.{Leg}
 
 abbrev pub said_text : List (List ℕ) → Verdict → List ℕ
 said_text names (Proved s) = codes " proved up to " ++ sum_text names s ++ codes "\n"
@@ -190,26 +161,20 @@ end_text (status.Limit (Depth depth)) = codes "end 7 limit: depth\n"
 end_text (status.Limit Steps) = codes "end 7 limit: steps\n"
 end_text (status.Limit (Pool need)) = codes "end 7 limit: pool\n"
 
--- the game of a file and the steps, with the games that they lead to
-abbrev pub games_text : Report → File → List ℕ
-games_text r f =
-    codes "game 1\n" ++ game_text r.work.names (tree_at r.work.pool.trees (Some f.game.root))
-    ++ trail_text r.work.names (parameters_in r.work.decls.list) r.work.pool.trees 1 2 r.trail.items
+-- the game of the file is a node of the report's pool
+abbrev pub IsLive : Report → Type 0
+IsLive r = IfSome r.file (λ f. f.game.root.0 < length r.work.pool.trees)
 
--- the same with the verdicts, where the file was accepted
-abbrev pub body_text : Report → Option File → List ℕ
-body_text r None = []
-body_text r (Some f) = games_text r f ++ verdicts_text r.work.names 1 r.verdicts.items
+-- what an entry tells in a work
+abbrev pub leg_in : Work → Entry → Leg
+leg_in w e = record {
+  names = w.names;
+  step = tree_at w.pool.trees (Some e.step.0);
+  cost = e.cost;
+  context = option_map shape_in e.context;
+  next = option_map (λ g. tree_at w.pool.trees (Some g.root)) e.next;
+}
 
--- The text of a proof is a function of the report.
-abbrev pub text_of : Report → List ℕ
-text_of r = body_text r r.file ++ end_text r.status
-
--- the game of the file, the steps and the games that they lead to are nodes of the report's pool
-
+-- its step and its game are nodes of the pool
 abbrev pub EntryLive : ℕ → Entry → Type 0
 EntryLive n e = (e.step.0.0 < n) × IfSome e.next (λ g. g.root.0 < n)
-
-pub record IsLive (r : Report) : Type 0 where
-  pub file : IfSome r.file (λ f. f.game.root.0 < length r.work.pool.trees)
-  pub trail : All (EntryLive (length r.work.pool.trees)) r.trail.items

@@ -2,15 +2,16 @@
 #![tactic(auto)]
 
 pub mod contexts;
+mod flow;
 mod lines;
 pub mod outcome;
 mod printed;
 mod report;
+mod stream;
 mod text;
 pub mod verdicts;
-mod writing;
 
-pub use printed::printed_text;
+pub use flow::{Flow, is_streamed};
+pub use printed::rest_text;
 pub use report::{Cause, Command, Entry, FileFault, Report, Status, Verdict, Which};
-pub use text::report_text;
-pub use writing::{WriteError, write};
+pub use stream::Stream;

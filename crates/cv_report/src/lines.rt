@@ -1,8 +1,11 @@
-ghost use Rattle.std.specs.Prelude.{◌≡◌, ◌+◌, ◌<◌, ◌≤◌, ◌++◌, ◌∷◌, [], length, take, OnOk, OnErr, IsSome};
+ghost use Rattle.std.specs.Prelude.{◌≡◌, ◌+◌, ◌<◌, ◌≤◌, ◌++◌, ◌∷◌, [], ℕ, List, length, take, IfOk, OnOk, OnErr, IsSome};
 ghost use Rattle.cv_outside.specs.Causes.{Rose};
+ghost use Rattle.cv_report.specs.Streams.{IsPut};
 ghost use Rattle.cv_report.specs.Writing.{TakesFront, TakesAll};
 
+use crate::flow::Flow;
 use cv_outside::{PutError, Sink};
+use std::alloc::AllocError;
 
 /// Puts all of a piece, going on after a partial take.
 #[tactic(auto, using(crate::proofs::Takes::pieces))]
@@ -33,7 +36,7 @@ fn line_len(text: &[u8]) -> usize
 
 /// Puts a text line by line.
 #[tactic(auto, using(crate::proofs::Takes::lines))]
-pub fn put_lines<K: Sink>(sink: &mut K, text: &[u8]) -> Result<(), PutError>
+fn put_each_line<K: Sink>(sink: &mut K, text: &[u8]) -> Result<(), PutError>
     ensures tells { IsSome (K.taken sink.new) → IsSome (K.taken sink.old) }
     ensures ok { OnOk result (TakesAll (K.taken sink.old) (K.taken sink.new) text.now) }
     ensures front { TakesFront (K.taken sink.old) (K.taken sink.new) text.now }
@@ -48,4 +51,36 @@ pub fn put_lines<K: Sink>(sink: &mut K, text: &[u8]) -> Result<(), PutError>
         done += line;
     }
     Ok(())
+}
+
+/// Puts a text line by line, and lets the sink hand it on.
+#[tactic(auto, using(crate::proofs::Takes::handed))]
+pub fn put_lines<K: Sink>(sink: &mut K, text: &[u8]) -> Result<(), PutError>
+    ensures tells { IsSome (K.taken sink.new) → IsSome (K.taken sink.old) }
+    ensures ok { OnOk result (TakesAll (K.taken sink.old) (K.taken sink.new) text.now) }
+    ensures front { TakesFront (K.taken sink.old) (K.taken sink.new) text.now }
+    ensures later { K.faults sink.old ≤ K.faults sink.new }
+    ensures failed { OnErr result (Rose (K.faults sink.old) (K.faults sink.new)) }
+{
+    put_each_line(sink, text)?;
+    sink.flush()
+}
+
+/// Puts a text, where there was memory for it.
+#[tactic(auto, using(crate::proofs::Streams::puts))]
+pub(crate) fn put_text<K: Sink>(sink: &mut K, text: Result<Vec<u8>, AllocError>) -> Flow
+    ensures tells { IsSome (K.taken sink.new) → IsSome (K.taken sink.old) }
+    ensures later { K.faults sink.old ≤ K.faults sink.new }
+    ensures put { (whole : List ℕ) → IfOk text (λ v. v.items ≡ whole)
+        → IsPut result (K.taken sink.old) (K.taken sink.new)
+        (K.faults sink.old) (K.faults sink.new) whole }
+    ensures spent { result ≡ Flow.Spent → K.taken sink.new ≡ K.taken sink.old }
+{
+    let Ok(text) = text else {
+        return Flow::Spent;
+    };
+    match put_lines(sink, &text) {
+        Ok(()) => Flow::Going,
+        Err(_) => Flow::Failed,
+    }
 }

@@ -1,10 +1,10 @@
-// What is printed of a report, by its command.
+// What is printed of a report behind the lines of games and steps, by its command.
 ghost use Rattle.std.specs.Prelude.{◌≡◌, ◌++◌, IfOk, OnOk};
-ghost use Rattle.cv_report.specs.Printed.{counted, counted_with, counts_text, printed, printed_by, sample_text as sample_of, shown_text as shown_of, summary_text as summary_of};
-ghost use Rattle.cv_report.specs.Text.{IsLive, end_text as end_of};
+ghost use Rattle.cv_report.specs.Printed.{counted, counted_with, counts_by as counts_with, counts_text, rest_text as rest_of, sample_text as sample_of, summary_text as summary_of, verdicts_and_end};
+ghost use Rattle.cv_report.specs.Text.{end_text as end_of};
 
 use crate::report::{Command, Report, Status, Verdict};
-use crate::text::{games_text, push_end, report_text};
+use crate::text::{push_end, push_verdicts_and_end};
 use cv_outside::words::sample::file_of;
 use cv_print::push_decimal;
 use std::alloc::{AllocError, Global};
@@ -57,26 +57,23 @@ fn end_text(alloc: Global, status: Status) -> Result<Vec<u8>, AllocError>
     Ok(out)
 }
 
-/// The games, where the file was accepted.
-fn shown_text(alloc: Global, report: &Report) -> Result<Vec<u8>, AllocError>
-    requires { IsLive report.now }
-    ensures { IfOk result (λ v. v.items ≡ shown_of report.now report.now.file) }
+/// The verdicts with the end line.
+fn verdicts_text(alloc: Global, report: &Report) -> Result<Vec<u8>, AllocError>
+    ensures { IfOk result (λ v. v.items ≡ verdicts_and_end report.now) }
 {
-    match report.file {
-        Some(file) => games_text(alloc, report, file),
-        None => Ok(Vec::new(alloc)),
-    }
+    let mut out = Vec::new(alloc);
+    push_verdicts_and_end(&mut out, report)?;
+    Ok(out)
 }
 
-/// What `games` prints.
-fn games_printed(alloc: Global, report: &Report) -> Result<Vec<u8>, AllocError>
-    requires { IsLive report.now }
-    ensures { IfOk result (λ v. v.items
-        ≡ shown_of report.now report.now.file ++ end_of report.now.status) }
+/// What is printed of a proof of a sample that was read.
+fn counts_by(alloc: Global, report: &Report, number: u32) -> Result<Vec<u8>, AllocError>
+    ensures { IfOk result (λ v. v.items ≡ counts_with number report.now report.now.status) }
 {
-    let mut out = shown_text(alloc, report)?;
-    push_end(&mut out, report.status)?;
-    Ok(out)
+    match report.status {
+        Status::Memory => end_text(alloc, Status::Memory),
+        _ => counts_text(alloc, number, count_verdicts(&report.verdicts)),
+    }
 }
 
 /// What is printed of a proof of a sample.
@@ -84,7 +81,7 @@ fn summary_text(alloc: Global, report: &Report, number: u32) -> Result<Vec<u8>, 
     ensures { IfOk result (λ v. v.items ≡ summary_of number report.now report.now.file) }
 {
     match report.file {
-        Some(_) => counts_text(alloc, number, count_verdicts(&report.verdicts)),
+        Some(_) => counts_by(alloc, report, number),
         None => end_text(alloc, report.status),
     }
 }
@@ -99,14 +96,14 @@ fn sample_text(alloc: Global, number: u32, status: Status) -> Result<Vec<u8>, Al
     }
 }
 
-/// What is printed of a report: of a proof its text, by `games` no verdicts, of a sample three lines or its own text.
-pub fn printed_text(alloc: Global, report: &Report) -> Result<Vec<u8>, AllocError>
-    requires { IsLive report.now }
-    ensures { IfOk result (λ v. v.items ≡ printed report.now) }
+/// What is printed of a report behind the lines of games and steps: of a proof the verdicts, by `games` none, of a sample three lines or
+/// its own text.
+pub fn rest_text(alloc: Global, report: &Report) -> Result<Vec<u8>, AllocError>
+    ensures { IfOk result (λ v. v.items ≡ rest_of report.now) }
 {
     match report.command {
-        Command::Prove { moves: _, more: _ } => report_text(alloc, report),
-        Command::Games => games_printed(alloc, report),
+        Command::Prove { moves: _, more: _ } => verdicts_text(alloc, report),
+        Command::Games => end_text(alloc, report.status),
         Command::Sample {
             number,
             prove: true,
@@ -115,6 +112,6 @@ pub fn printed_text(alloc: Global, report: &Report) -> Result<Vec<u8>, AllocErro
             number,
             prove: false,
         } => sample_text(alloc, number, report.status),
-        Command::Nothing => report_text(alloc, report),
+        Command::Nothing => verdicts_text(alloc, report),
     }
 }

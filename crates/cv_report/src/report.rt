@@ -137,7 +137,7 @@ impl Status {
     }
 }
 
-/// What was done.
+/// What was done. The steps that were taken aren't kept: what is told of them is put as they are found.
 #[derive(Drop)]
 pub struct Report {
     /// The names, the declarations and the trees of the file.
@@ -147,10 +147,6 @@ pub struct Report {
     pub command: Command,
     /// The steps of the file's proof block, where it has one.
     pub script: Option<Vec<Step>>,
-    /// The accepted steps, in order.
-    pub steps: Vec<Step>,
-    /// The same steps, each with its cost, its context and the game that it leads to.
-    pub trail: Vec<Entry>,
     /// What is said of each query of an accepted file, in order.
     pub verdicts: Vec<Verdict>,
     /// How the run ended, leaving faults of writing aside.

@@ -1,11 +1,15 @@
 // The text of a report.
-ghost use Rattle.std.specs.Prelude.{◌≡◌, ◌+◌, ◌<◌, ◌^◌, ◌++◌, [], All, length, IfOk, OnOk, IfSome};
-ghost use Rattle.cv_report.specs.Text.{EntryLive, IsLive, body_text as body_of, condition_text, cost_text, end_text, entry_text, expansion_text, fault_text, games_after, games_text as games_of, grammar_text, group_text, lexis_text, library_lexis_text, library_text, next_text, no_close_text, numbered_text, open_text, place_text, query_text, refused_text, said_text, scope_text, script_text, step_refused_text, text_of, trail_text, types_text, verdict_text, verdicts_text};
+ghost use Rattle.std.specs.Prelude.{◌≡◌, ◌+◌, ◌<◌, ◌^◌, ◌++◌, Some, codes, length, option_map, IfOk, OnOk, IfSome};
+ghost use Rattle.cv_syntax.specs.PoolTrees.{tree_at};
+ghost use Rattle.cv_syntax.specs.declared.work.Work.{Work};
+ghost use Rattle.cv_print.specs.Games.{game_text};
+ghost use Rattle.cv_report.specs.Lines.{cost_text, game_after, leg_text, next_text};
+ghost use Rattle.cv_report.specs.Printed.{verdicts_and_end};
+ghost use Rattle.cv_report.specs.Text.{EntryLive, condition_text, end_text, expansion_text, fault_text, grammar_text, group_text, leg_in, lexis_text, library_lexis_text, library_text, no_close_text, numbered_text, open_text, place_text, query_text, refused_text, said_text, scope_text, script_text, step_refused_text, types_text, verdict_text, verdicts_text};
 
 use crate::contexts::push_context;
 use crate::report::{Cause, Entry, FileFault, Report, Status, Verdict, Which};
 use cv_bound::{Cost, listed_text};
-use cv_costs::order_of;
 use cv_group::GroupFault;
 use cv_lex::LexError;
 use cv_library::{ExpandError, LibraryError};
@@ -14,7 +18,7 @@ use cv_print::{push_decimal, push_game};
 use cv_scope_rules::ScopeFault;
 use cv_scope_rules::typing::TypeFault;
 use cv_script::push_step;
-use cv_syntax::{File, Game, Names, Pool};
+use cv_syntax::{Game, Names, NodeId, Pool, Work};
 use std::alloc::{AllocError, Global};
 
 /// Appends the cost of a step.
@@ -31,14 +35,13 @@ fn push_cost(out: &mut Vec<u8>, names: &Names, cost: &Cost) -> Result<(), AllocE
 /// Appends a game with its number, where there is one.
 fn push_next(
     out: &mut Vec<u8>,
-    pool: &Pool,
-    names: &Names,
+    work: &Work,
     number: u64,
     next: Option<Game>,
 ) -> Result<(), AllocError>
-    requires { IfSome next (λ g. g.root.0 < length pool.now.trees) }
-    ensures { OnOk result (out.new.items
-        ≡ out.old.items ++ next_text names.now pool.now.trees number next) }
+    requires { IfSome next (λ g. g.root.0 < length work.now.pool.trees) }
+    ensures { OnOk result (out.new.items ≡ out.old.items ++ next_text work.now.names number
+        (option_map (λ g. tree_at work.now.pool.trees (Some g.root)) next)) }
 {
     let Some(game) = next else {
         return Ok(());
@@ -46,37 +49,37 @@ fn push_next(
     out.extend_from_slice(b"game ")?;
     push_decimal(out, number)?;
     out.extend_from_slice(b"\n")?;
-    push_game(out, pool, names, game.root)
+    push_game(out, &work.pool, &work.names, game.root)
 }
 
 /// Appends a step with its number, its cost, its context and the game that it leads to, which would have this number.
 fn push_entry(
     out: &mut Vec<u8>,
-    pool: &Pool,
-    names: &Names,
+    work: &Work,
     order: &[u32],
     number: u64,
     game: u64,
     entry: &Entry,
 ) -> Result<(), AllocError>
-    requires { EntryLive (length pool.now.trees) entry.now }
+    requires { EntryLive (length work.now.pool.trees) entry.now }
     ensures { OnOk result (out.new.items
-        ≡ out.old.items ++ entry_text names.now order.now pool.now.trees number game entry.now) }
+        ≡ out.old.items ++ leg_text order.now number game (leg_in work.now entry.now)) }
 {
+    let names = &work.names;
     out.extend_from_slice(b"step ")?;
     push_decimal(out, number)?;
     out.extend_from_slice(b": ")?;
-    push_step(out, pool, names, entry.step)?;
+    push_step(out, &work.pool, names, entry.step)?;
     out.extend_from_slice(b";\n")?;
     push_cost(out, names, &entry.cost)?;
     push_context(out, names, order, number, &entry.context)?;
-    push_next(out, pool, names, game, entry.next)
+    push_next(out, work, game, entry.next)
 }
 
 /// The number of the next game behind an entry.
-fn game_after(game: u64, entry: &Entry) -> u64
+pub(crate) fn game_behind(game: u64, entry: &Entry) -> u64
     requires { game + 1 < 2 ^ 64 }
-    ensures { result ≡ games_after game entry.now }
+    ensures { (w : Work) → result ≡ game_after game (leg_in w entry.now) }
 {
     match entry.next {
         Some(_) => game + 1,
@@ -84,25 +87,39 @@ fn game_after(game: u64, entry: &Entry) -> u64
     }
 }
 
-/// Appends the steps.
-#[tactic(auto, using(crate::proofs::Texts::texts))]
-fn push_trail(
-    out: &mut Vec<u8>,
+/// The lines of a step.
+pub(crate) fn entry_text(
+    alloc: Global,
+    work: &Work,
+    order: &[u32],
+    number: u64,
+    game: u64,
+    entry: &Entry,
+) -> Result<Vec<u8>, AllocError>
+    requires { EntryLive (length work.now.pool.trees) entry.now }
+    ensures { IfOk result (λ v. v.items
+        ≡ leg_text order.now number game (leg_in work.now entry.now)) }
+{
+    let mut out = Vec::new(alloc);
+    push_entry(&mut out, work, order, number, game, entry)?;
+    Ok(out)
+}
+
+/// The lines of the game of a file.
+pub(crate) fn first_text(
+    alloc: Global,
     pool: &Pool,
     names: &Names,
-    order: &[u32],
-    trail: &[Entry],
-) -> Result<(), AllocError>
-    requires { All (EntryLive (length pool.now.trees)) trail.now }
-    ensures { OnOk result (out.new.items
-        ≡ out.old.items ++ trail_text names.now order.now pool.now.trees 1 2 trail.now) }
+    game: NodeId,
+) -> Result<Vec<u8>, AllocError>
+    requires { game.0 < length pool.now.trees }
+    ensures { IfOk result (λ v. v.items ≡ codes "game 1\n"
+        ++ game_text names.now (tree_at pool.now.trees (Some game))) }
 {
-    let mut game = 2;
-    'trail: for k in 0..trail.len() {
-        push_entry(out, pool, names, order, k as u64 + 1, game, &trail[k])?;
-        game = game_after(game, &trail[k]);
-    }
-    Ok(())
+    let mut out = Vec::new(alloc);
+    out.extend_from_slice(b"game 1\n")?;
+    push_game(&mut out, pool, names, game)?;
+    Ok(out)
 }
 
 /// Appends what is said of a query.
@@ -380,40 +397,10 @@ pub(crate) fn push_end(out: &mut Vec<u8>, status: Status) -> Result<(), AllocErr
     }
 }
 
-/// The text of the game of a file and of the steps, with the games that they lead to.
-pub(crate) fn games_text(alloc: Global, report: &Report, file: File) -> Result<Vec<u8>, AllocError>
-    requires file { file.game.root.0 < length report.now.work.pool.trees }
-    requires trail { All (EntryLive (length report.now.work.pool.trees)) report.now.trail.items }
-    ensures { IfOk result (λ v. v.items ≡ games_of report.now file) }
+/// Appends verdicts and the end line.
+pub(crate) fn push_verdicts_and_end(out: &mut Vec<u8>, report: &Report) -> Result<(), AllocError>
+    ensures { OnOk result (out.new.items ≡ out.old.items ++ verdicts_and_end report.now) }
 {
-    let work = &report.work;
-    let mut out = Vec::new(alloc);
-    out.extend_from_slice(b"game 1\n")?;
-    push_game(&mut out, &work.pool, &work.names, file.game.root)?;
-    let order = order_of(alloc, &work.decls)?;
-    push_trail(&mut out, &work.pool, &work.names, &order, &report.trail)?;
-    Ok(out)
-}
-
-/// The same with the verdicts, where the file was accepted.
-fn body_text(alloc: Global, report: &Report) -> Result<Vec<u8>, AllocError>
-    requires { IsLive report.now }
-    ensures { IfOk result (λ v. v.items ≡ body_of report.now report.now.file) }
-{
-    let Some(file) = report.file else {
-        return Ok(Vec::new(alloc));
-    };
-    let mut out = games_text(alloc, report, file)?;
-    push_verdicts(&mut out, &report.work.names, &report.verdicts)?;
-    Ok(out)
-}
-
-/// The text of a report on a proof.
-pub fn report_text(alloc: Global, report: &Report) -> Result<Vec<u8>, AllocError>
-    requires { IsLive report.now }
-    ensures { IfOk result (λ v. v.items ≡ text_of report.now) }
-{
-    let mut out = body_text(alloc, report)?;
-    push_end(&mut out, report.status)?;
-    Ok(out)
+    push_verdicts(out, &report.work.names, &report.verdicts)?;
+    push_end(out, report.status)
 }

@@ -17,3 +17,5 @@ pub mod WorkedSplits
 pub mod Planned
 pub mod MixedLists
 pub mod NewNames
+mod Drawn
+pub mod NamesKept

@@ -4,3 +4,4 @@ pub mod Row
 pub mod Planned
 pub mod Mixed
 pub mod Worked
+pub mod Drawings

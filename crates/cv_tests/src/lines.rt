@@ -6,7 +6,8 @@ ghost use Rattle.cv_report.specs.Text.{IsLive};
 use cv_lex::tokens;
 use cv_outside::{MemSink, PutError, Sink};
 use cv_parse::file;
-use cv_report::{Cause, Command, Report, Status, Verdict, WriteError, write};
+use cv_report::outcome::write;
+use cv_report::{Cause, Command, Report, Status, Stream, Verdict};
 use cv_syntax::{File, Work};
 use std::alloc::Global;
 use std::process::Abort;
@@ -45,6 +46,10 @@ impl Sink for ByteSink {
         }
         self.inner.put(piece)
     }
+
+    fn flush(&mut self) -> Result<(), PutError> {
+        self.inner.flush()
+    }
 }
 
 /// The work of the file, and the file.
@@ -73,11 +78,19 @@ fn report(rt: &impl Abort, alloc: Global) -> Result<Report, Fail>
             more: false,
         },
         script: None,
-        steps: Vec::new(alloc),
-        trail: Vec::new(alloc),
         verdicts,
         status: Status::Open(Cause::Stuck),
     })
+}
+
+/// Puts the report, its game first, and answers how the run ends.
+fn put<K: Sink>(rt: &impl Abort, alloc: Global, sink: &mut K) -> Result<Status, Fail> {
+    let report = report(rt, alloc)?;
+    let Some(file) = report.file else {
+        return Ok(report.status);
+    };
+    let stream = Stream::begin(alloc, sink, &report.work, report.command, file.game);
+    Ok(write(alloc, report, stream, sink).status)
 }
 
 /// The lines before one, and the last line behind all.
@@ -97,7 +110,8 @@ fn one_byte_at_a_time(rt: HostRuntime) -> Result<(), Fail> {
     let alloc = rt.alloc();
     let inner = MemSink::new(alloc, 1_000, Vec::new(alloc))?;
     let mut sink = ByteSink { inner };
-    write(alloc, &mut sink, &report(&rt, alloc)?)?;
+    let ended = put(&rt, alloc, &mut sink)?;
+    assert_eq!(rt; ended, Status::Open(Cause::Stuck));
     assert_eq!(rt; sink.inner.taken(), text(alloc, 8)?.as_bytes());
     Ok(())
 }
@@ -105,11 +119,10 @@ fn one_byte_at_a_time(rt: HostRuntime) -> Result<(), Fail> {
 #[test]
 fn each_line_fails(rt: HostRuntime) -> Result<(), Fail> {
     let alloc = rt.alloc();
-    let report = report(&rt, alloc)?;
     for k in 0..8 {
         let mut sink = MemSink::new(alloc, 1_000, vec![in alloc; k as u64 + 1]?)?;
-        let wrote = write(alloc, &mut sink, &report).err();
-        assert_eq!(rt; wrote, Some(WriteError::Failed));
+        let ended = put(&rt, alloc, &mut sink)?;
+        assert_eq!(rt; ended, Status::Write);
         assert_eq!(rt; sink.taken(), text(alloc, k)?.as_bytes());
     }
     Ok(())

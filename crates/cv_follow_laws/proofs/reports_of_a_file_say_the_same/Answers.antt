@@ -1,9 +1,9 @@
-use Rattle.cv_follow_laws.proofs.Alike.{file_is, front_of, names_are, trails_are, verdicts_are}
+use Rattle.cv_follow_laws.proofs.Alike.{course_is, file_is, front_of, names_are, verdicts_are}
 use Rattle.cv_follow_laws.proofs.Printed.{body_is}
 use Rattle.cv_follow_laws.proofs.reports_of_a_file_say_the_same.Goals as goal
 
-pub returns-clause-trail : goal.returns-clause-trail
-returns-clause-trail c = λ source r q f g w v n l. trails_are source r q f g w v n l
+pub returns-clause-course : goal.returns-clause-course
+returns-clause-course c = λ source r q f g w v n l. course_is source r q f g w v n l
 
 pub returns-clause-front : goal.returns-clause-front
 returns-clause-front c = λ source r q f g w v n l. front_of source r q f g w v n l

@@ -1,13 +1,10 @@
--- Verdicts and steps, one by one.
-use Rattle.std.proofs.Common.{◌≡◌, ℕ, suc, ◌+◌, ◌<◌, ◌≤◌, Bool, true, false, not, List, [], ◌∷◌, ◌++◌, length, map, drop, get_or, Option, Some, None, is_some, ap, refl, sym, ◌∙◌, append_assoc, append-nil, option_and_then}
+-- Verdicts, one by one.
+use Rattle.std.proofs.Common.{◌≡◌, ℕ, suc, ◌+◌, ◌<◌, Bool, true, false, not, List, [], ◌∷◌, ◌++◌, length, drop, Option, Some, None, is_some, ap, refl, sym, ◌∙◌, append_assoc, option_and_then}
 use Rattle.std.specs.Prelude.{slice_get}
-use Rattle.std.proofs.lemmas.List.{drop_more}
 use Rattle.cv_bound.specs.declared.terms.Term.{Term}
-use Rattle.cv_bound.proofs.closings.QueryLists.{queries_past, queries_skip, queries_take}
+use Rattle.cv_bound.proofs.closings.QueryLists.{queries_skip, queries_take}
 use Rattle.cv_pool.specs.declared.node.NodeId.{NodeId}
-use Rattle.cv_report.specs.declared.report.Entry.{Entry}
 use Rattle.cv_report.specs.declared.report.Verdict.{Verdict}
-use Rattle.cv_script.specs.declared.steps.Step.{Step}
 use Rattle.cv_syntax.specs.declared.decls.Decl.{Decl}
 use Rattle.cv_syntax.specs.Classes.{queries, query_of}
 use Rattle.cv_report.specs.verdicts.Verdicts.{verdict_by, verdicts_by}
@@ -33,10 +30,3 @@ verdict_put f n ds k q before after total v e i p h =
 
 pub verdict_skip : (f : ℕ → Option (List Term)) (n : ℕ) (ds : List Decl) (k : ℕ) (before total : List Verdict) → k < length ds → option_and_then query_of (slice_get ds k) ≡ None → before ++ verdicts_by f (suc n) (queries (drop k ds)) ≡ total → before ++ verdicts_by f (suc n) (queries (drop (k + 1) ds)) ≡ total
 verdict_skip f n ds k before total l e h = ap (λ qs. before ++ verdicts_by f (suc n) qs) (sym (queries_skip ds k l e)) ∙ h
-
--- the steps of a trail, one by one
-pub steps_go : (xs : List Entry) (k : ℕ) (d : Entry) (out new total : List Step) → k < length xs → out ++ map (λ e. e.step) (drop k xs) ≡ total → new ≡ out ++ (get_or xs k d).step ∷ [] → new ++ map (λ e. e.step) (drop (k + 1) xs) ≡ total
-steps_go xs k d out new total l i n =
-    ap (λ o. o ++ map (λ e. e.step) (drop (k + 1) xs)) n ∙ (append_assoc out ((get_or xs k d).step ∷ []) (map (λ e. e.step) (drop (k + 1) xs)) ∙ (ap (λ ys. out ++ map (λ e. e.step) ys) (sym (drop_more xs k d l)) ∙ i))
-
-pub ruleset steps = (steps_go)

@@ -1,13 +1,11 @@
-ghost use Rattle.std.specs.Prelude.{◌≡◌, ◌≢◌, ◌⊎◌};
-ghost use Rattle.cv_outside.specs.Causes.{Rose};
-ghost use Rattle.cv_report.specs.Printed.{printed};
-ghost use Rattle.cv_report.specs.Text.{IsLive};
-ghost use Rattle.cv_report.specs.Writing.{TakesAll, TakesFront};
+ghost use Rattle.std.specs.Prelude.{◌≡◌, ◌≢◌, ◌⊎◌, ℕ, List, Option};
+ghost use Rattle.cv_report.specs.Lines.{Lines};
+ghost use Rattle.cv_report.specs.Printed.{is_shown};
+ghost use Rattle.cv_report.specs.Streams.{Streams};
 ghost use Rattle.cv_report.specs.outcome.Refused.{SaysMemory};
-ghost use Rattle.cv_report.specs.outcome.Written.{unwritten as unwritten_status};
+ghost use Rattle.cv_report.specs.outcome.Written.{EndsBy, IsWritten, unwritten as unwritten_status};
 
-use crate::outcome::without_file::refused;
-use crate::{Report, Status, WriteError, write as write_report};
+use crate::{Flow, Report, Status, Stream, rest_text};
 use cv_outside::Sink;
 use std::alloc::Global;
 
@@ -28,39 +26,40 @@ fn unwritten(status: Status) -> Status
     }
 }
 
-/// What a run answers that has no memory left for the text of its report. Nothing is written then.
-fn spent(alloc: Global, report: Report) -> Outcome
-    ensures status { result.status ≡ Status.Memory }
-    ensures report { SaysMemory report.command result.report }
+/// The report of a run that memory ran out in behind some of its steps: it has no verdicts.
+pub fn spent(alloc: Global, report: Report) -> Report
+    ensures { SaysMemory report result }
 {
-    Outcome {
-        status: Status::Memory,
-        report: refused(alloc, report.work, report.command, Status::Memory),
-    }
+    let mut report = report;
+    report.verdicts = Vec::new(alloc);
+    report.status = Status::Memory;
+    report
 }
 
-/// Puts the text of a report into a sink, line by line. A sink that fails ends the run by `Write`; without memory for the
-/// text nothing is put, and the report is one of memory.
-#[tactic(auto, using(crate::proofs::outcome::Written::unwritten_laws))]
-pub fn write<K: Sink>(alloc: Global, report: Report, sink: &mut K) -> Outcome
-    requires { IsLive report }
-    ensures kept { (result.report ≡ report) ⊎ SaysMemory report.command result.report }
-    ensures front { TakesFront (K.taken sink.old) (K.taken sink.new) (printed result.report) }
-    ensures all { result.status ≢ Status.Write → result.status ≢ Status.Memory
-        → TakesAll (K.taken sink.old) (K.taken sink.new) (printed result.report) }
-    ensures status { (result.status ≡ result.report.status)
-        ⊎ ((result.status ≡ Status.Write) × Rose (K.faults sink.old) (K.faults sink.new)) }
-    ensures memory { result.report.status ≡ Status.Memory → result.status ≡ Status.Memory }
+/// Puts what is left of the text of a report, behind the lines of its games and steps. A sink that fails ends the run by `Write`. Without
+/// memory for a text no more is put, and the report is one of memory.
+pub fn write<K: Sink>(alloc: Global, report: Report, stream: Stream, sink: &mut K) -> Outcome
+    ensures kept { (result.report ≡ report) ⊎ SaysMemory report result.report }
+    ensures written { (l : Lines) (before : Option (List ℕ)) (old : ℕ)
+        → report.status ≢ Status.Write
+        → Streams (is_shown report) l before (K.taken sink.old) old (K.faults sink.old) stream
+        → IsWritten before (K.taken sink.new) result.status result.report l
+        × EndsBy old (K.faults sink.new) result.status result.report }
 {
-    match write_report(alloc, sink, &report) {
-        Ok(()) => Outcome {
+    let mut stream = stream;
+    stream.close(sink, rest_text(alloc, &report));
+    match stream.flow() {
+        Flow::Going => Outcome {
             status: report.status,
             report,
         },
-        Err(WriteError::Failed) => Outcome {
+        Flow::Failed => Outcome {
             status: unwritten(report.status),
             report,
         },
-        Err(WriteError::OutOfMemory) => spent(alloc, report),
+        Flow::Spent => Outcome {
+            status: Status::Memory,
+            report: spent(alloc, report),
+        },
     }
 }

@@ -5,7 +5,7 @@ use crate::{Command, Report, Status};
 use cv_syntax::Work;
 use std::alloc::Global;
 
-/// A report on a run that ended before a file was accepted, or that memory ran out in.
+/// A report on a run that ended before a file was accepted.
 pub fn refused(alloc: Global, work: Work, command: Command, status: Status) -> Report
     ensures status { result.status ≡ status }
     ensures command { result.command ≡ command }
@@ -17,8 +17,6 @@ pub fn refused(alloc: Global, work: Work, command: Command, status: Status) -> R
         file: None,
         command,
         script: None,
-        steps: Vec::new(alloc),
-        trail: Vec::new(alloc),
         verdicts: Vec::new(alloc),
         status,
     }

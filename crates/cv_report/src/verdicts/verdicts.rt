@@ -1,12 +1,11 @@
-ghost use Rattle.std.specs.Prelude.{◌≡◌, ◌<◌, ◌^◌, length, map, option_map, IfOk};
+ghost use Rattle.std.specs.Prelude.{◌≡◌, ◌<◌, ◌^◌, length, option_map, IfOk};
 ghost use Rattle.cv_syntax.specs.Classes.{queries};
 ghost use Rattle.cv_bound.specs.closings.Queries.{first_unclosed, numbers_of, sum_in};
 ghost use Rattle.cv_report.specs.verdicts.Verdicts.{ended_with, verdict_by, verdicts_by};
 
-use crate::{Cause, Entry, Status, Verdict};
+use crate::{Cause, Status, Verdict};
 use cv_bound::Sum;
 use cv_bound::closings::ClosedQueries;
-use cv_script::Step;
 use cv_syntax::{Decls, query_at};
 use std::alloc::{AllocError, Global};
 
@@ -51,16 +50,4 @@ pub fn verdicts_of(
         verdicts.push(verdict_of(closed.sum(number))?)?;
     }
     Ok(verdicts)
-}
-
-/// The steps of a trail.
-#[tactic(auto, using(crate::proofs::verdicts::OneByOne::steps))]
-pub fn steps_of(alloc: Global, trail: &[Entry]) -> Result<Vec<Step>, AllocError>
-    ensures { IfOk result (λ v. v.items ≡ map (λ e. e.step) trail.now) }
-{
-    let mut steps = Vec::new(alloc);
-    for entry in trail {
-        steps.push(entry.step)?;
-    }
-    Ok(steps)
 }

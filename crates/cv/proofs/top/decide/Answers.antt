@@ -9,9 +9,9 @@ use Rattle.cv.proofs.Endings.{memory_complete}
 use Rattle.cv.proofs.top.decide.Goals as goal
 
 pub returns-in_default-clause-complete : goal.returns-in_default-clause-complete
-returns-in_default-clause-complete g c = λ quiet. memory_complete (command_of (asked_by c.args.words.now)) (source_asked (g.F.Shelf.told c.args.shelf.now) (asked_by c.args.words.now)) _ c.report_without_file.ensures.status
+returns-in_default-clause-complete g c = λ quiet. memory_complete (command_of (asked_by c.args.words.now)) (source_asked (g.F.Shelf.told c.args.shelf.now) (asked_by c.args.words.now)) _ c.run_without_file.ensures.status
 
 pub returns-in-None-clause-complete : goal.returns-in-None-clause-complete
 returns-in-None-clause-complete g c = λ quiet.
-    subst (λ (o : Option Asked). IfSome (source_asked (g.F.Shelf.told c.args.shelf.now) o) (λ (b : Given). IsComplete (command_of o) b c.answer.result.status)) (ap (option_map asked_of) (sym c.in-Some.is) ∙ c.in-Ok.ensures)
+    subst (λ (o : Option Asked). IfSome (source_asked (g.F.Shelf.told c.args.shelf.now) o) (λ (b : Given). IsComplete (command_of o) b c.answer.result.report.status)) (ap (option_map asked_of) (sym c.in-Some.is) ∙ c.in-Ok.ensures)
     (c.answer.ensures.complete quiet)

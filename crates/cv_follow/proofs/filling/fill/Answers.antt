@@ -1,55 +1,65 @@
-use Rattle.std.proofs.Common.{ap, ap₂, arith, length, refl, subst, sym, take, ◌∙◌, ◌≤◌, Some}
+use Rattle.std.proofs.Common.{ap, arith, length, subst, sym, take, ◌≤◌, ◌∙◌, Some}
 use Rattle.std.proofs.lemmas.List.{take_all}
-use Rattle.cv_bound.specs.closings.Queries.{first_unclosed, numbers_of, sum_in}
-use Rattle.cv_report.specs.verdicts.Verdicts.{ended_with, verdicts_by}
-use Rattle.cv_script.specs.reader.Scripts.{trees_of}
-use Rattle.cv_syntax.specs.Classes.{queries}
 use Rattle.cv_syntax.specs.PoolTrees.{tree_at}
 use Rattle.cv_syntax.specs.declared.work.Game.{Game}
-use Rattle.cv_follow.specs.Fillings.{Advances, Fills}
-use Rattle.cv_follow.proofs.Fillings.{filled_all, fills_none, fills_step, fills_stop}
+use Rattle.cv_script.specs.reader.Scripts.{trees_of}
+use Rattle.cv_follow.specs.Courses.{PutsOn}
+use Rattle.cv_follow.specs.Fillings.{Advances}
+use Rattle.cv_follow.proofs.Fillings.{filled_all, filling_none, fills_broken, fills_step, fills_stop}
 use Rattle.cv_follow.proofs.Tries.{may_begin}
 use Rattle.cv_follow.proofs.filling.fill.Goals as goal
 
 pub steps-init : goal.steps-init
-steps-init c =
+steps-init g c =
     let work = c.args.work.now in
     let s = c.start-sequence in
-    let few = c.requires.steps.few in
+    let same = ap (λ (q : Game). tree_at work.pool.trees (Some q.root)) s.ensures.game in
     let limit = c.requires.limit in
+    let few = c.requires.steps.few in
     record {
-      filling = fills_none work (tree_at work.pool.trees (Some c.args.game.root)) s.result c.new-trail.result.items c.new-trail.ensures.items s.ensures.steps s.ensures.sum s.ensures.closed (ap (λ (g : Game). tree_at work.pool.trees (Some g.root)) s.ensures.game);
-      again = may_begin work c.args.game s.result s.ensures.game s.ensures.steps s.ensures.sum c.requires.game c.requires.small c.requires.formed c.requires.below c.requires.equivalences c.requires.limit;
+      filling = filling_none work (tree_at work.pool.trees (Some c.args.game.root)) s.result (g.K.Sink.taken c.args.sink.now) (g.K.Sink.faults c.args.sink.now) c.args.stream.now s.ensures.steps s.ensures.sum s.ensures.closed same;
+      again = may_begin work c.args.game s.result s.ensures.game s.ensures.arrays s.ensures.steps s.ensures.sum c.requires.game c.requires.small c.requires.formed c.requires.below c.requires.equivalences c.requires.limit;
       room = omega (arith, few, limit);
-    }
-
-pub steps-preserved : goal.steps-preserved
-steps-preserved c =
-    let fn = c.args.work.now in
-    let n = c.advance.new in
-    record {
-      filling = fills_step fn c.steps.work n.work (tree_at fn.pool.trees (Some c.args.game.root)) c.args.script.now c.requires.below c.requires.steps.live c.steps.step-index _ c.steps-test.true c.steps.sequence n.sequence c.steps.trail.items n.trail.items c.steps.invariant.filling
-          (subst (Advances c.steps.work n.work _ c.steps.sequence n.sequence c.steps.trail.items n.trail.items) c.in_default.is c.in_ok-end.ensures.advanced);
-      again = c.in_ok-end.ensures.again;
-      room = c.in_ok-end.ensures.room;
+      steps = s.ensures.steps ∙ sym c.requires.begun;
     }
 
 pub returns-in-Some : goal.returns-in-Some
-returns-in-Some c =
+returns-in-Some g c =
     let fn = c.args.work.now in
-    let n = c.advance.new in
-    fills_stop fn c.steps.work n.work (tree_at fn.pool.trees (Some c.args.game.root)) c.args.script.now c.requires.below c.requires.steps.live c.steps.step-index _ c.steps-test.true c.steps.sequence n.sequence c.steps.trail.items n.trail.items c.steps.invariant.filling c.steps.invariant.again.stands.live
-    (record { trail = n.trail; verdicts = c.in_ok-verdicts.verdicts; status = c.in-Some.status }) refl
-    (c.in_ok-verdicts.ensures.verdicts ∙ ap (λ cs. verdicts_by (sum_in cs) 1 (queries n.work.decls.list)) c.closed.ensures)
-    (subst (Advances c.steps.work n.work _ c.steps.sequence n.sequence c.steps.trail.items n.trail.items) c.in-Some.is c.in_ok-end.ensures.advanced)
+    let l = c.steps in
+    let n = c.advance-end.new in
+    let first = tree_at fn.pool.trees (Some c.args.game.root) in
+    let at : length fn.pool.trees ≤ c.mark-mark.result.0 = omega (arith, c.mark-mark.ensures) in
+    fills_stop fn l.work n.work first c.args.script.now c.requires.steps.live l.step-index _ c.steps-test.true l.sequence n.sequence (g.K.Sink.taken c.args.sink.now) (g.K.Sink.taken l.sink) (g.K.Sink.taken n.sink) (g.K.Sink.faults c.args.sink.now) (g.K.Sink.faults l.sink) (g.K.Sink.faults n.sink) c.args.stream.now l.stream n.stream l.invariant.filling c.requires.below c.mark-mark.result.0 at c.in-Some.status c.stopped.result
+    (subst (Advances c.mark-mark.result.0 l.work n.work _ l.sequence n.sequence (λ a b. PutsOn (g.K.Sink.taken l.sink) (g.K.Sink.taken n.sink) (g.K.Sink.faults l.sink) (g.K.Sink.faults n.sink) a b l.stream n.stream)) c.in-Some.is c.in-Ok.ensures.advanced) c.stopped.ensures
+
+pub returns-in_default : goal.returns-in_default
+returns-in_default g c =
+    let fn = c.args.work.now in
+    let l = c.steps in
+    let n = c.advance-end.new in
+    let first = tree_at fn.pool.trees (Some c.args.game.root) in
+    let at : length fn.pool.trees ≤ c.mark-mark.result.0 = omega (arith, c.mark-mark.ensures) in
+    fills_broken fn l.work n.work first c.args.script.now c.requires.steps.live l.step-index (record { 0 = c.args.game.root }) c.steps-test.true l.sequence n.sequence (g.K.Sink.taken c.args.sink.now) (g.K.Sink.taken l.sink) (g.K.Sink.taken n.sink) (g.K.Sink.faults c.args.sink.now) (g.K.Sink.faults l.sink) (g.K.Sink.faults n.sink) c.args.stream.now l.stream n.stream l.invariant.filling c.requires.below c.mark-mark.result.0 at c.spent.result c.in_default.ensures.cut c.spent.ensures.status c.spent.ensures.verdicts
+
+pub steps-preserved : goal.steps-preserved
+steps-preserved g c =
+    let fn = c.args.work.now in
+    let l = c.steps in
+    let n = c.advance-end.new in
+    let first = tree_at fn.pool.trees (Some c.args.game.root) in
+    let at : length fn.pool.trees ≤ c.mark-mark.result.0 = omega (arith, c.mark-mark.ensures) in
+    record {
+      filling = fills_step fn l.work n.work first c.args.script.now c.requires.steps.live l.step-index _ c.steps-test.true l.sequence n.sequence (g.K.Sink.taken c.args.sink.now) (g.K.Sink.taken l.sink) (g.K.Sink.taken n.sink) (g.K.Sink.faults c.args.sink.now) (g.K.Sink.faults l.sink) (g.K.Sink.faults n.sink) c.args.stream.now l.stream n.stream l.invariant.filling c.requires.below c.mark-mark.result.0 at (subst (Advances c.mark-mark.result.0 l.work n.work _ l.sequence n.sequence (λ a b. PutsOn (g.K.Sink.taken l.sink) (g.K.Sink.taken n.sink) (g.K.Sink.faults l.sink) (g.K.Sink.faults n.sink) a b l.stream n.stream)) c.in_default-end.is c.in-Ok.ensures.advanced);
+      again = c.in-Ok.ensures.again;
+      room = c.in-Ok.ensures.room;
+      steps = c.in-Ok.ensures.steps;
+    }
 
 pub returns : goal.returns
-returns c =
+returns g c =
     let fn = c.args.work.now in
-    let now = c.steps.work in
-    let found = c.steps.invariant.filling.found in
-    let all = ap (trees_of fn.pool.trees) (take_all c.steps.step-index c.args.script.now (omega (arith, c.steps-test.false))) in
-    filled_all fn now (tree_at fn.pool.trees (Some c.args.game.root)) c.steps.sequence c.steps.trail.items found (record { trail = c.steps.trail; verdicts = c.in_ok-verdicts-2.verdicts; status = c.end_of-status.result }) refl
-    (c.in_ok-verdicts-2.ensures.verdicts ∙ ap (λ cs. verdicts_by (sum_in cs) 1 (queries now.decls.list)) c.closed-2.ensures)
-    (trees_of fn.pool.trees c.args.script.now) (subst (λ ts. Fills ts found.found) all c.steps.invariant.filling.fills)
-    (c.end_of-status.ensures ∙ ap₂ (λ cs vs. ended_with (first_unclosed (numbers_of cs) (length vs))) c.closed-3.ensures c.as_slice.ensures.value)
+    let l = c.steps in
+    let trees = fn.pool.trees in
+    filled_all fn l.work (tree_at trees (Some c.args.game.root)) l.sequence (trees_of trees (take l.step-index c.args.script.now)) (trees_of trees c.args.script.now) _ l.invariant.filling c.finished.result
+    (ap (trees_of trees) (take_all l.step-index c.args.script.now (omega (arith, c.steps-test.false)))) c.finished.ensures

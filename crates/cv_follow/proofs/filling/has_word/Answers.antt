@@ -1,6 +1,4 @@
-use Rattle.std.proofs.Common.{sym, ◌∙◌, map}
-use Rattle.cv_syntax.specs.PoolTrees.{tree_at}
-use Rattle.std.specs.Prelude.{Some}
+use Rattle.std.proofs.Common.{sym, ◌∙◌}
 use Rattle.cv_follow.proofs.Fillings.{word_found}
 use Rattle.cv_follow.proofs.filling.has_word.Goals as goal
 

@@ -1,21 +1,22 @@
-use Rattle.std.proofs.Common.{subst}
+use Rattle.std.proofs.Common.{subst, Some}
 use Rattle.cv_syntax.specs.declared.work.Game.{Game}
 use Rattle.cv_syntax.specs.PoolTrees.{tree_at}
-use Rattle.std.specs.Prelude.{Some}
+use Rattle.cv_follow.specs.Courses.{PutsCourse}
 use Rattle.cv_follow.specs.Searches.{HasEnded}
-use Rattle.cv_follow.proofs.Tries.{may_begin, search_begins, searched}
+use Rattle.cv_follow.proofs.Searches.{search_begins, searched}
+use Rattle.cv_follow.proofs.Tries.{may_begin}
 use Rattle.cv_follow.proofs.searching.search.Goals as goal
 
-pub try_all-requires-clause-begun : goal.try_all-requires-clause-begun
-try_all-requires-clause-begun c =
+pub try_all-ended-requires-clause-begun : goal.try_all-ended-requires-clause-begun
+try_all-ended-requires-clause-begun g c =
     let s = c.start-sequence in
-    search_begins c.args.work.now c.args.moves s.result c.new-trail.result.items c.new-trail.ensures.items s.ensures.steps s.ensures.sum s.ensures.closed
-    (may_begin c.args.work.now c.args.game s.result s.ensures.game s.ensures.steps s.ensures.sum c.requires.game c.requires.small c.requires.formed c.requires.below c.requires.equivalences c.requires.limit)
+    search_begins c.args.work.now c.args.moves s.result (g.K.Sink.taken c.args.sink.now) (g.K.Sink.faults c.args.sink.now) c.args.stream.now s.ensures.steps s.ensures.sum s.ensures.closed
+    (may_begin c.args.work.now c.args.game s.result s.ensures.game s.ensures.arrays s.ensures.steps s.ensures.sum c.requires.game c.requires.small c.requires.formed c.requires.below c.requires.equivalences c.requires.limit)
 
-pub returns : goal.returns
-returns c =
+pub returns-in-Ok : goal.returns-in-Ok
+returns-in-Ok g c =
     let work = c.args.work.now in
-    let new = c.try_all.new.work in
-    let s = c.try_all.new.sequence in
-    let ended = subst (λ (g : Game). HasEnded work new (tree_at work.pool.trees (Some g.root)) c.args.moves s c.try_all.new.trail.items c.in_ok-ending.ending) c.start-sequence.ensures.game c.in_ok-ending.ensures in
-    searched work new (tree_at work.pool.trees (Some c.args.game.root)) c.args.moves s c.try_all.new.trail.items c.in_ok-ending.ending c.closed.result.now c.requires.below ended c.closed.ensures c.finish.result c.finish.ensures.trail c.finish.ensures.verdicts c.finish.ensures.status
+    let n = c.try_all-ended.new in
+    let first = tree_at work.pool.trees (Some c.args.game.root) in
+    let ended = subst (λ (q : Game). HasEnded work n.work (tree_at work.pool.trees (Some q.root)) c.args.moves n.sequence (PutsCourse (g.K.Sink.taken c.args.sink.now) (g.K.Sink.taken n.sink) (g.K.Sink.faults c.args.sink.now) (g.K.Sink.faults n.sink) work (tree_at work.pool.trees (Some q.root)) c.args.stream.now n.stream) c.in-Ok.ending) c.start-sequence.ensures.game c.in-Ok.ensures.ended in
+    searched work n.work first c.args.moves n.sequence (PutsCourse (g.K.Sink.taken c.args.sink.now) (g.K.Sink.taken n.sink) (g.K.Sink.faults c.args.sink.now) (g.K.Sink.faults n.sink) work first c.args.stream.now n.stream) c.in-Ok.ending c.closed.result.now c.finish.result ended c.closed.ensures c.finish.ensures

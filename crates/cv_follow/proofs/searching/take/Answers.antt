@@ -1,11 +1,13 @@
-use Rattle.std.proofs.Common.{◌≡◌, ◌⊎◌, arith, inl, inr, subst, sym, ◌∙◌, refl, Bool, true, false}
+use Rattle.std.proofs.Common.{◌≡◌, ◌⊎◌, arith, inl, inr, sym, subst, refl, Bool, true, false}
 use Rattle.std.specs.Prelude.{Some}
+use Rattle.cv_accept.proofs.Blocks.{root_grown}
 use Rattle.cv_syntax.specs.declared.work.Work.{Work}
 use Rattle.cv_syntax.specs.PoolTrees.{tree_at}
 use Rattle.cv_follow.specs.Searches.{Comes, with_names}
-use Rattle.cv_follow.proofs.NamesKept.{names_kept}
-use Rattle.cv_follow.proofs.ReadySteps.{fails_without, kept_length, kept_names, may_with, take_again}
-use Rattle.cv_follow.proofs.Tries.{comes_more, comes_otherwise, comes_refused, found_more, found_put, kept_none, may_next, stands_now}
+use Rattle.cv_follow.proofs.Coming.{comes_more, comes_otherwise, comes_refused}
+use Rattle.cv_rule_array_names.proofs.NamesKept.{names_kept}
+use Rattle.cv_follow.proofs.ReadySteps.{fails_without, kept_names, may_with, take_again}
+use Rattle.cv_follow.proofs.Tries.{found_more, kept_none, same_both}
 use Rattle.cv_follow.proofs.searching.take.Goals as goal
 
 -- a move that isn't refused here is allowed
@@ -16,51 +18,40 @@ move_allowed moved allowed (inr none) e = absurd (cc)
 pub returns-then-not-may_move-clause-tried : goal.returns-then-not-may_move-clause-tried
 returns-then-not-may_move-clause-tried c = λ n ready.
     let w = with_names n c.args.work.now in
-    comes_refused w w c.args.may_move c.args.sequence.now c.args.sequence.now c.args.trail.now.items c.args.trail.now.items (kept_none w c.args.sequence.now c.args.trail.now.items)
+    comes_refused w w c.args.may_move c.args.sequence.now c.args.sequence.now (kept_none w c.args.sequence.now c.requires.may.empty)
 
-pub push-requires-clause-stands : goal.push-requires-clause-stands
-push-requires-clause-stands c = stands_now _ _ _ c.requires.empty c.requires.may.stands
+pub push-pushed-requires-clause-stands : goal.push-pushed-requires-clause-stands
+push-pushed-requires-clause-stands c = c.requires.may.stands
 
-pub push-requires-clause-declared : goal.push-requires-clause-declared
-push-requires-clause-declared c = c.requires.may.declared
+pub push-pushed-requires-clause-declared : goal.push-pushed-requires-clause-declared
+push-pushed-requires-clause-declared c = c.requires.may.declared
 
-pub push-requires-clause-equivalences : goal.push-requires-clause-equivalences
-push-requires-clause-equivalences c = c.requires.may.equivalences
+pub push-pushed-requires-clause-equivalences : goal.push-pushed-requires-clause-equivalences
+push-pushed-requires-clause-equivalences c = c.requires.may.equivalences
 
-pub push-requires-clause-limit : goal.push-requires-clause-limit
-push-requires-clause-limit c = let l = c.requires.may.limit in omega arith
+pub push-pushed-requires-clause-limit : goal.push-pushed-requires-clause-limit
+push-pushed-requires-clause-limit c = let l = c.requires.may.limit in omega arith
 
-pub returns-in_ok-note-in-Ok-clause-tried : goal.returns-in_ok-note-in-Ok-clause-tried
-returns-in_ok-note-in-Ok-clause-tried c = λ n ready start first below h.
-    let w = with_names n c.args.work.now in
-    let new = c.push.new.work in
+pub returns-in-Ok-clause-tried : goal.returns-in-Ok-clause-tried
+returns-in-Ok-clause-tried c = λ n ready start first below h.
+    let old = c.args.work.now in
+    let w = with_names n old in
+    let new = c.push-pushed.new.work in
     let s = c.args.sequence.now in
-    let t = c.push.new.self in
-    let trail = c.args.trail.now.items in
-    let after = c.note.new.trail.items in
-    let step = tree_at w.pool.trees (Some c.args.step.0) in
-    let may = may_with c.args.work.now w s refl refl c.requires.may in
-    let names = names_kept w.names c.args.work.now.names new.names (take_again n c.args.work.now.names) c.push.ensures.names in
-    let next = found_more start w new first below s t trail h c.args.step c.requires.live after _ may c.in-Ok.ensures.pushed c.in_ok-note-in-Ok.ensures c.push.ensures.grows c.push.ensures.stands c.in-Ok.ensures.few names c.push.ensures.decls c.args.work.now.names ready c.in-Ok.ensures.drawn c.push.ensures.alone in
-    let put = found_put start w new first below s t trail h c.args.step c.requires.live after _ may c.in-Ok.ensures.pushed c.in_ok-note-in-Ok.ensures c.push.ensures.grows c.push.ensures.stands c.in-Ok.ensures.few names c.push.ensures.decls c.args.work.now.names ready c.in-Ok.ensures.drawn c.push.ensures.alone in
-    comes_more start w new first below s t trail h after step next put (may_next w new s t may c.push.ensures.grows c.push.ensures.stands c.push.ensures.decls)
+    let may = may_with old w s refl refl c.requires.may in
+    let names = names_kept w.names old.names new.names (take_again n old.names) c.push-pushed.ensures.names in
+    let more = found_more start w new first below s c.push-pushed.new.self h c.args.step.0 c.requires.live c.forget.new.self _ may c.in-Ok.ensures.pushed c.push-pushed.ensures.grows c.push-pushed.ensures.stands c.in-Ok.ensures.few names c.push-pushed.ensures.decls old.names ready c.in-Ok.ensures.drawn c.push-pushed.ensures.alone c.forget.ensures.same c.forget.ensures.arrays in
+    comes_more start w new first below s c.forget.new.self h c.args.step more (tree_at old.pool.trees (Some c.args.step.0)) (root_grown old.pool new.pool c.args.step.0 c.push-pushed.ensures.grows c.requires.live)
     c.args.advised c.is_move-moved.result c.args.may_move c.is_move-moved.ensures (move_allowed c.is_move-moved.result c.args.may_move c.else-moved.either)
 
 pub returns-in-Some-clause-tried : goal.returns-in-Some-clause-tried
 returns-in-Some-clause-tried c = λ n ready start first below h.
     let old = c.args.work.now in
     let w = with_names n old in
-    let new = c.push.new.work in
+    let new = c.push-pushed.new.work in
     let s = c.args.sequence.now in
-    let t = c.push.new.self in
-    let trail = c.args.trail.now.items in
     let tried = c.in-Some.tried in
-    let kept = kept_names n old new s t trail trail (record { grows = c.push.ensures.grows; names = c.in-Err.ensures.back; decls = c.push.ensures.decls; sequence = c.in-Err.ensures.same; entries = refl }) in
-    subst (λ (x : Work). Comes start w x first c.args.may_move s t trail trail h tried) (sym (fails_without c.in-Err.fault tried n new (sym c.in-Some.ensures)))
-    (comes_otherwise start w (with_names n new) first below s t trail h c.args.step c.requires.live c.in-Err.fault c.args.may_move tried (sym c.in-Some.ensures) (may_with old w s refl refl c.requires.may) c.in-Err.ensures.pushed c.in-Err.ensures.kept kept)
-
-pub returns-in_ok-note-in-Ok-clause-names : goal.returns-in_ok-note-in-Ok-clause-names
-returns-in_ok-note-in-Ok-clause-names c = kept_length c.args.work.now.names c.push.new.work.names c.push.ensures.names
-
-pub returns-in-Some-clause-names : goal.returns-in-Some-clause-names
-returns-in-Some-clause-names c = kept_length c.args.work.now.names c.push.new.work.names c.push.ensures.names
+    let same = same_both s c.push-pushed.new.self c.forget.new.self c.in-Err.ensures.same c.forget.ensures.same in
+    let kept = kept_names n old new s c.forget.new.self (record { grows = c.push-pushed.ensures.grows; names = c.in-Err.ensures.back; decls = c.push-pushed.ensures.decls; sequence = same; empty = c.forget.ensures.arrays }) in
+    subst (λ (x : Work). Comes start w x first c.args.may_move s c.forget.new.self h tried) (sym (fails_without c.in-Err.fault tried n new (sym c.in-Some.ensures)))
+    (comes_otherwise start w (with_names n new) first below s c.forget.new.self h c.args.step c.requires.live c.in-Err.fault c.args.may_move tried c.push-pushed.new.self (sym c.in-Some.ensures) (may_with old w s refl refl c.requires.may) c.in-Err.ensures.pushed c.in-Err.ensures.kept kept)

@@ -1,5 +1,5 @@
 use Rattle.std.proofs.Common.{ap, arith, length, refl, subst, sym}
-use Rattle.cv_pool.proofs.Growth.{Grows_trans, Grows_same}
+use Rattle.cv_pool.proofs.Growth.{Grows_same}
 use Rattle.cv_report.specs.declared.report.Which.TheVariants.{Pool}
 use Rattle.cv_syntax.specs.declared.work.Work.{Work}
 use Rattle.cv_syntax.specs.limits.Limits.{nodes_of}
@@ -7,15 +7,17 @@ use Rattle.cv_script.specs.Views.{items_of_step}
 use Rattle.cv_step_writer.specs.Proposals.{step_tree}
 use Rattle.cv_syntax_trees.specs.Tree.{Tree}
 use Rattle.cv_follow.specs.Searches.{IsReady, with_names}
+use Rattle.cv_follow.proofs.Coming.{comes_short}
+use Rattle.cv_follow.proofs.Growing.{grown_both, grown_pool}
 use Rattle.cv_follow.proofs.ReadySteps.{comes_from_before, kept_names, ready_grown}
-use Rattle.cv_follow.proofs.Tries.{comes_short, kept_by, may_again}
+use Rattle.cv_follow.proofs.Tries.{kept_by, may_again}
 use Rattle.cv_follow.proofs.searching.write_and_take.Goals as goal
 
 pub take-requires-clause-may : goal.take-requires-clause-may
 take-requires-clause-may c =
     let old = c.args.work.now in
     let mid : Work = record old { pool = c.write.new.pool } in
-    may_again old mid c.args.sequence.now c.args.sequence.now c.args.trail.now.items c.args.trail.now.items c.requires.may (kept_by old mid c.args.sequence.now c.args.trail.now.items c.in-Ok.ensures.grows refl refl)
+    may_again old mid c.args.sequence.now c.args.sequence.now c.requires.may (kept_by old mid c.args.sequence.now c.requires.may.empty c.in-Ok.ensures.grows refl refl)
 
 pub take-requires-clause-short : goal.take-requires-clause-short
 take-requires-clause-short c =
@@ -36,30 +38,37 @@ returns-in-Ok-clause-tried c = λ n ready.
     let old = c.args.work.now in
     let mid : Work = record old { pool = c.write.new.pool } in
     let s = c.args.sequence.now in
-    let trail = c.args.trail.now.items in
     let live = c.requires.may.stands.live in
     let grown = ready_grown n old mid s (items_of_step (step_tree old.pool.trees c.args.proposal.now)) c.in-Ok.ensures.grows refl refl live ready in
-    comes_from_before n old mid c.take.new.work c.args.may_move s c.take.new.sequence trail c.take.new.trail.items live (kept_by old mid s trail c.in-Ok.ensures.grows refl refl) c.take.result
+    comes_from_before n old mid c.take.new.work c.args.may_move s c.take.new.sequence live (kept_by old mid s c.requires.may.empty c.in-Ok.ensures.grows refl refl) c.take.result
     (c.take.ensures.tried n (subst (λ (t : Tree). IsReady n mid s (items_of_step t)) (sym c.in-Ok.ensures.tree) grown))
 
-pub returns-in-Ok-clause-grows : goal.returns-in-Ok-clause-grows
-returns-in-Ok-clause-grows c = Grows_trans c.args.work.now.pool c.write.new.pool c.take.new.work.pool c.in-Ok.ensures.grows c.take.ensures.grows
+pub returns-in-Ok-clause-grown : goal.returns-in-Ok-clause-grown
+returns-in-Ok-clause-grown c =
+    let old = c.args.work.now in
+    let mid : Work = record old { pool = c.write.new.pool } in
+    grown_both old mid c.take.new.work (grown_pool old mid c.in-Ok.ensures.grows refl refl) c.take.ensures.grown
 
 pub returns-in-Err-Full-clause-tried : goal.returns-in-Err-Full-clause-tried
 returns-in-Err-Full-clause-tried c = λ n ready.
     let old = c.args.work.now in
     let new : Work = record old { pool = c.write.new.pool } in
     let s = c.args.sequence.now in
-    let trail = c.args.trail.now.items in
     let e = rw c.in-Err-Full.field-0-is at c.in-Err-Full.ensures in
     let over = (e.full c.in-Err-Full.need refl).1 in
     let same = ap length e.kept in
     rw c.in-Err-Full.field-0-is
-    (comes_short (with_names n old) (with_names n new) c.args.may_move s s trail trail (Pool c.in-Err-Full.need)
-    (kept_names n old new s s trail trail (kept_by old new s trail (Grows_same old.pool new.pool e.kept c.write.ensures.limit) refl refl)) c.requires.may.limit (omega arith))
+    (comes_short (with_names n old) (with_names n new) c.args.may_move s s (Pool c.in-Err-Full.need)
+    (kept_names n old new s s (kept_by old new s c.requires.may.empty (Grows_same old.pool new.pool e.kept c.write.ensures.limit) refl refl)) c.requires.may.limit (omega arith))
 
-pub returns-in-Err-Full-clause-grows : goal.returns-in-Err-Full-clause-grows
-returns-in-Err-Full-clause-grows c = let e = rw c.in-Err-Full.field-0-is at c.in-Err-Full.ensures in Grows_same c.args.work.now.pool c.write.new.pool e.kept c.write.ensures.limit
+pub returns-in-Err-Full-clause-grown : goal.returns-in-Err-Full-clause-grown
+returns-in-Err-Full-clause-grown c =
+    let old = c.args.work.now in
+    let e = rw c.in-Err-Full.field-0-is at c.in-Err-Full.ensures in
+    grown_pool old (record old { pool = c.write.new.pool }) (Grows_same old.pool c.write.new.pool e.kept c.write.ensures.limit) refl refl
 
-pub returns-in-Err-OutOfMemory-clause-grows : goal.returns-in-Err-OutOfMemory-clause-grows
-returns-in-Err-OutOfMemory-clause-grows c = let e = rw c.in-Err-OutOfMemory.field-0-is at c.in-Err-OutOfMemory.ensures in Grows_same c.args.work.now.pool c.write.new.pool e.kept c.write.ensures.limit
+pub returns-in-Err-OutOfMemory-clause-grown : goal.returns-in-Err-OutOfMemory-clause-grown
+returns-in-Err-OutOfMemory-clause-grown c =
+    let old = c.args.work.now in
+    let e = rw c.in-Err-OutOfMemory.field-0-is at c.in-Err-OutOfMemory.ensures in
+    grown_pool old (record old { pool = c.write.new.pool }) (Grows_same old.pool c.write.new.pool e.kept c.write.ensures.limit) refl refl

@@ -1,101 +1,117 @@
-use Rattle.std.proofs.Common.{◌<◌, ◌≤◌, false, ap, ap₂, arith, length, map, subst, sym, take, refl, ◌∙◌, Some}
+use Rattle.std.proofs.Common.{◌≤◌, ap, arith, length, subst, sym, take, ◌∙◌, Some}
 use Rattle.std.proofs.lemmas.List.{take_all}
-use Rattle.cv_pool.proofs.Growth.{Grows_refl, Grows_trans}
-use Rattle.cv_syntax.specs.Classes.{queries}
-use Rattle.cv_syntax.specs.Declarations.{declarations}
-use Rattle.cv_syntax_trees.specs.Tree.{size}
-use Rattle.cv_syntax.specs.PoolTrees.{tree_at}
 use Rattle.cv_syntax.specs.declared.work.Game.{Game}
+use Rattle.cv_syntax.specs.PoolTrees.{tree_at}
 use Rattle.cv_script.specs.reader.Scripts.{trees_of}
-use Rattle.cv_scope_rules.specs.Phrases.{IsWellFormed}
-use Rattle.cv_bound.specs.costs.Sums.{SumsFit}
-use Rattle.cv_bound.specs.declared.costs.sums.Sums.{Sums}
-use Rattle.cv_bound.specs.closings.Queries.{first_unclosed, numbers_of, sum_in}
-use Rattle.cv_report.specs.verdicts.Verdicts.{ended_with, verdicts_by}
-use Rattle.cv_kernel.specs.Drawings.{DrawsAlong}
-use Rattle.cv_kernel.specs.Sequences.{AreModest}
-use Rattle.cv_follow.specs.Scripts.{entry_in, known_to, led}
-use Rattle.cv_follow.specs.Walks.{stop_of}
-use Rattle.cv_follow.proofs.Drawing.{drawn_next}
-use Rattle.cv_follow.proofs.NamesKept.{names_kept}
-use Rattle.cv_follow.proofs.Following.{asked, asked_by, equivalences_kept, followed_next, followed_none, followed_stops, on_none, room_after, walk_ends}
+use Rattle.cv_follow.specs.Courses.{PutsCourse}
+use Rattle.cv_follow.specs.declared.walk.Walk.{Walk}
+use Rattle.cv_follow.specs.Walks.{IsWalk, stop_of}
+use Rattle.cv_follow.proofs.Following.{asked, equivalences_kept}
+use Rattle.cv_kernel.proofs.Followed.{counted_after, room_after}
+use Rattle.cv_follow.proofs.Gone.{reached_so_far}
+use Rattle.cv_follow.proofs.Left.{walk_ends, walk_spent}
+use Rattle.cv_follow.proofs.Plain.{declared_stay, following_cut, following_more, following_none, following_stops, live_on}
+use Rattle.cv_follow.proofs.Tries.{may_begin}
+use Rattle.cv_follow.proofs.walk.follow.Goals.{in-None, in-Some}
 use Rattle.cv_follow.proofs.walk.follow.Goals as goal
 
 pub steps-init : goal.steps-init
-steps-init c =
+steps-init g c =
     let work = c.args.work.now in
-    let trees = work.pool.trees in
-    let s = c.start-sequence.result in
-    let same = ap (λ (g : Game). tree_at trees (Some g.root)) c.start-sequence.ensures.game in
-    let here = c.requires.game in
-    let few = c.requires.steps.few in
+    let s = c.start-sequence in
+    let same = ap (λ (q : Game). tree_at work.pool.trees (Some q.root)) s.ensures.game in
     let limit = c.requires.limit in
+    let few = c.requires.steps.few in
     record {
-      followed = followed_none (length trees) (declarations trees work.decls.list) work.decls.own trees s c.new-trail.result.items (tree_at trees (Some c.args.game.root)) c.new-trail.ensures.items c.start-sequence.ensures.steps c.start-sequence.ensures.sum c.start-sequence.ensures.closed (omega arith) same;
-      drawn = subst (λ es. DrawsAlong false (declarations trees work.decls.list) (known_to work.decls.own) work.decls.own (tree_at trees (Some c.args.game.root)) (map led (map (entry_in trees) es)) work.names work.names) (sym c.new-trail.ensures.items) refl;
-      stands = record {
-        live = subst (λ (g : Game). g.root.0 < length trees) (sym c.start-sequence.ensures.game) here;
-        small = subst (λ t. size t ≤ 50000) (sym same) c.requires.small;
-        formed = subst (IsWellFormed (declarations trees work.decls.list)) (sym same) c.requires.formed;
-        arrays = on_none _ _ c.start-sequence.ensures.arrays;
-        fits = subst SumsFit (sym c.start-sequence.ensures.sum) (tt, tt);
-        modest = subst (λ (q : Sums). AreModest q s.steps) (sym c.start-sequence.ensures.sum) (omega arith);
-        few = (let n = c.start-sequence.ensures.steps in omega arith);
-      };
-      grows = Grows_refl work.pool;
-      room = omega arith;
-      names = take_all (length work.names) work.names (omega arith);
-      decls = refl;
+      following = following_none work (tree_at work.pool.trees (Some c.args.game.root)) s.result (g.K.Sink.taken c.args.sink.now) (g.K.Sink.faults c.args.sink.now) c.args.stream.now s.ensures.steps s.ensures.sum s.ensures.closed same;
+      stands = (may_begin work c.args.game s.result s.ensures.game s.ensures.arrays s.ensures.steps s.ensures.sum c.requires.game c.requires.small c.requires.formed c.requires.below c.requires.equivalences c.requires.limit).stands;
+      room = omega (arith, few, limit);
+      steps = s.ensures.steps ∙ sym c.requires.begun;
     }
+
+pub push-requires-clause-declared : goal.push-requires-clause-declared
+push-requires-clause-declared g c =
+    let gone = c.steps.invariant.following.gone in
+    declared_stay c.args.work.now c.steps.work gone.grows gone.decls c.requires.below
 
 pub push-requires-clause-equivalences : goal.push-requires-clause-equivalences
-push-requires-clause-equivalences c =
-    equivalences_kept c.args.work.now c.steps.work c.args.game.root c.steps.sequence.game.root c.steps.invariant.grows c.steps.invariant.decls c.requires.below c.requires.equivalences
+push-requires-clause-equivalences g c =
+    let gone = c.steps.invariant.following.gone in
+    equivalences_kept c.args.work.now c.steps.work c.args.game.root c.steps.sequence.game.root gone.grows gone.decls c.requires.below c.requires.equivalences
 
-pub returns-in-Err-clause-walk : goal.returns-in-Err-clause-walk
-returns-in-Err-clause-walk c =
+pub go_on-requires-clause-step : goal.go_on-requires-clause-step
+go_on-requires-clause-step g c =
+    live_on c.args.work.now c.steps.work c.push.new.work _ (c.requires.steps.live c.steps.step-index _ c.steps-test.true) c.steps.invariant.following.gone.grows c.push.ensures.grows
+
+pub returns-in-Err-go_on : goal.returns-in-Err-go_on
+returns-in-Err-go_on g c =
     let fn = c.args.work.now in
-    let now = c.steps.work in
-    let i = c.steps.invariant in
-    let count = sym (c.steps-in-Err.ensures ∙ c.in-Err.ensures.same.steps) in
-    followed_stops fn now (tree_at fn.pool.trees (Some c.args.game.root)) c.args.script.now c.requires.below c.requires.steps.live i.grows i.decls c.steps.step-index _ c.steps-test.true c.steps.sequence c.push.new.self c.steps.trail.items i.followed
-    c.push.new.work.pool.trees (asked fn) c.in-Err.fault (record { trail = c.steps.trail; verdicts = c.in_ok-verdicts-in-Err.verdicts; status = c.in-Some.status }) c.in-Err.ensures.kept (i.grows.limit ∙ c.requires.limit) c.in-Err.ensures.pushed (ap (stop_of c.in-Err.fault) count ∙ sym c.in-Some.ensures) refl
-    (c.in_ok-verdicts-in-Err.ensures.verdicts ∙ (ap (λ cs. verdicts_by (sum_in cs) 1 (queries c.push.new.work.decls.list)) (c.closed.ensures ∙ c.in-Err.ensures.same.closed) ∙ asked_by fn c.push.new.work.decls (c.push.ensures.decls ∙ i.decls) (sum_in c.steps.sequence.closed)))
+    let l = c.steps in
+    let i = l.invariant in
+    let gone = i.following.gone in
+    let first = tree_at fn.pool.trees (Some c.args.game.root) in
+    let n = c.go_on.new in
+    let at : length fn.pool.trees ≤ c.mark-mark.result.0 = omega (arith, c.mark-mark.ensures) in
+    walk_spent (length fn.pool.trees) fn n.work first (trees_of fn.pool.trees c.args.script.now) (asked fn) _ c.spent.result
+    (following_cut fn l.work first c.args.script.now c.requires.below c.requires.steps.live l.step-index _ c.steps-test.true l.sequence (g.K.Sink.taken c.args.sink.now) (g.K.Sink.taken l.sink) (g.K.Sink.faults c.args.sink.now) (g.K.Sink.faults l.sink) c.args.stream.now l.stream i.following
+    c.push.new.work c.push.new.self _ c.in-Ok.ensures.pushed c.push.ensures.grows i.stands.live c.in-Ok.ensures.few c.push.ensures.names c.push.ensures.decls c.in-Ok.ensures.drawn c.push.ensures.alone
+    c.mark-mark.result.0 at n.work (g.K.Sink.taken n.sink) (g.K.Sink.faults n.sink) n.stream c.go_on.ensures.stays c.go_on.ensures.names c.go_on.ensures.decls c.in-Err-go_on.ensures.cut)
+    c.spent.ensures.status c.spent.ensures.verdicts
+
+pub returns-in-Err : goal.returns-in-Err
+returns-in-Err g c =
+    let fn = c.args.work.now in
+    let l = c.steps in
+    let i = l.invariant in
+    let gone = i.following.gone in
+    let first = tree_at fn.pool.trees (Some c.args.game.root) in
+    let new = c.push.new.work in
+    let Puts = PutsCourse (g.K.Sink.taken c.args.sink.now) (g.K.Sink.taken l.sink) (g.K.Sink.faults c.args.sink.now) (g.K.Sink.faults l.sink) fn first c.args.stream.now l.stream in
+    let Walks : Walk → Type 0 = IsWalk (length fn.pool.trees) fn new first (trees_of fn.pool.trees c.args.script.now) (asked fn) Puts in
+    let same = c.in-Err.ensures.same in
+    let count = sym (c.steps-in-Err.ensures ∙ same.steps) in
+    elim c.match-stop_of.branch [
+      | in-Some w ↦ subst Walks (sym w.result-is)
+          (following_stops fn l.work first c.args.script.now c.requires.below c.requires.steps.live l.step-index _ c.steps-test.true l.sequence (g.K.Sink.taken c.args.sink.now) (g.K.Sink.taken l.sink) (g.K.Sink.faults c.args.sink.now) (g.K.Sink.faults l.sink) c.args.stream.now l.stream i.following
+          new c.push.new.self c.in-Err.fault w.in-Some.status w.stopped.result c.push.ensures.grows c.in-Err.ensures.kept (gone.grows.limit ∙ c.requires.limit) c.in-Err.ensures.pushed (ap (stop_of c.in-Err.fault) count ∙ sym w.in-Some.ensures) i.stands.live
+          same.game same.steps same.sum same.closed c.in-Err.ensures.back c.push.ensures.decls w.stopped.ensures)
+      | in-None w ↦ subst Walks (sym w.result-is)
+          (walk_spent (length fn.pool.trees) fn new first (trees_of fn.pool.trees c.args.script.now) (asked fn) Puts w.spent-in-None.result
+          (reached_so_far fn l.work first l.sequence gone new Puts (record { grows = c.push.ensures.grows; names = c.push.ensures.names; decls = c.push.ensures.decls }) i.following.puts) w.spent-in-None.ensures.status w.spent-in-None.ensures.verdicts)
+    ]
 
 pub steps-preserved : goal.steps-preserved
-steps-preserved c =
+steps-preserved g c =
     let fn = c.args.work.now in
-    let now = c.steps.work in
-    let new = c.push.new.work in
-    let i = c.steps.invariant in
+    let l = c.steps in
+    let i = l.invariant in
+    let gone = i.following.gone in
+    let first = tree_at fn.pool.trees (Some c.args.game.root) in
+    let n = c.go_on.new in
+    let mid = c.push.new.work in
+    let at : length fn.pool.trees ≤ c.mark-mark.result.0 = omega (arith, c.mark-mark.ensures) in
+    let ok = c.in-Ok-go_on.ensures in
     let few = c.in-Ok.ensures.few in
-    let limit = i.grows.limit ∙ c.requires.limit in
-    let room = room_after now.pool now.decls new.pool.trees c.steps.sequence c.push.new.self _ _ c.in-Ok.ensures.pushed few (omega (arith, limit, i.room)) in
+    let limit = gone.grows.limit ∙ c.requires.limit in
+    let room = room_after l.work.pool l.work.decls mid.pool.trees l.sequence c.push.new.self _ _ c.in-Ok.ensures.pushed few (omega (arith, limit, i.room)) in
+    let count = counted_after l.work.pool l.work.decls mid.pool.trees l.sequence c.push.new.self _ _ c.in-Ok.ensures.pushed in
     record {
-      followed = followed_next fn now (tree_at fn.pool.trees (Some c.args.game.root)) c.args.script.now c.requires.below c.requires.steps.live i.grows i.decls c.steps.step-index _ c.steps-test.true c.steps.sequence c.push.new.self c.steps.trail.items i.followed
-          new.pool c.note.new.trail.items _ c.in-Ok.ensures.pushed c.in_ok-note-in-Ok.ensures c.push.ensures.grows i.stands.live c.push.ensures.stands.live few;
-      drawn = drawn_next fn now (tree_at fn.pool.trees (Some c.args.game.root)) c.requires.below i.grows i.decls _ c.steps.sequence c.push.new.self c.steps.trail.items c.note.new.trail.items _ new.pool new.names i.followed c.in_ok-note-in-Ok.ensures c.push.ensures.grows (c.requires.steps.live c.steps.step-index _ c.steps-test.true) c.in-Ok.ensures.drawn c.push.ensures.alone i.drawn;
-      stands = c.push.ensures.stands;
-      grows = Grows_trans fn.pool now.pool new.pool i.grows c.push.ensures.grows;
-      room = omega (arith, room, limit);
-      names = names_kept fn.names now.names new.names i.names c.push.ensures.names;
-      decls = c.push.ensures.decls ∙ i.decls;
+      following =
+          following_more fn l.work first c.args.script.now c.requires.below c.requires.steps.live l.step-index _ c.steps-test.true l.sequence (g.K.Sink.taken c.args.sink.now) (g.K.Sink.taken l.sink) (g.K.Sink.faults c.args.sink.now) (g.K.Sink.faults l.sink) c.args.stream.now l.stream i.following
+          c.push.new.work c.push.new.self _ c.in-Ok.ensures.pushed c.push.ensures.grows i.stands.live c.in-Ok.ensures.few c.push.ensures.names c.push.ensures.decls c.in-Ok.ensures.drawn c.push.ensures.alone
+          c.mark-mark.result.0 at n.work (g.K.Sink.taken n.sink) (g.K.Sink.faults n.sink) n.stream c.go_on.ensures.stays c.go_on.ensures.names c.go_on.ensures.decls n.sequence ok.puts ok.game ok.same c.go_on.ensures.few;
+      stands = ok.stands;
+      room = omega (arith, room, limit, c.go_on.ensures.few);
+      steps = omega (arith, ok.same.steps, ok.count, count, i.steps);
     }
 
-pub returns-in-Err-clause-drawn : goal.returns-in-Err-clause-drawn
-returns-in-Err-clause-drawn c =
+pub returns : goal.returns
+returns g c =
     let fn = c.args.work.now in
-    let new = c.push.new.work in
-    subst (DrawsAlong false (declarations fn.pool.trees fn.decls.list) (known_to fn.decls.own) fn.decls.own (tree_at fn.pool.trees (Some c.args.game.root)) (map led (map (entry_in new.pool.trees) c.steps.trail.items)) fn.names) (sym c.in-Err.ensures.back)
-    (subst (λ ts. DrawsAlong false (declarations fn.pool.trees fn.decls.list) (known_to fn.decls.own) fn.decls.own (tree_at fn.pool.trees (Some c.args.game.root)) (map led (map (entry_in ts) c.steps.trail.items)) fn.names c.steps.work.names) (sym c.in-Err.ensures.kept) c.steps.invariant.drawn)
-
-pub returns-clause-walk : goal.returns-clause-walk
-returns-clause-walk c =
-    let fn = c.args.work.now in
+    let l = c.steps in
+    let i = l.invariant in
+    let gone = i.following.gone in
+    let first = tree_at fn.pool.trees (Some c.args.game.root) in
     let trees = fn.pool.trees in
-    let i = c.steps.invariant in
-    let all = ap (trees_of trees) (sym (take_all c.steps.step-index c.args.script.now (omega (arith, c.steps-test.false)))) in
-    walk_ends (length trees) (declarations trees fn.decls.list) fn.decls.own (tree_at trees (Some c.args.game.root)) c.steps.work.pool.trees c.steps.sequence c.steps.trail.items (trees_of trees (take c.steps.step-index c.args.script.now)) i.followed
-    (trees_of trees c.args.script.now) (asked fn) (record { trail = c.steps.trail; verdicts = c.in_ok-verdicts.verdicts; status = c.end_of-status.result }) all refl
-    (c.in_ok-verdicts.ensures.verdicts ∙ (ap (λ cs. verdicts_by (sum_in cs) 1 (queries c.steps.work.decls.list)) c.closed-2.ensures ∙ asked_by fn c.steps.work.decls i.decls (sum_in c.steps.sequence.closed)))
-    (c.end_of-status.ensures ∙ ap₂ (λ cs vs. ended_with (first_unclosed (numbers_of cs) (length vs))) c.closed-3.ensures c.as_slice.ensures.value)
+    let all = ap (trees_of trees) (sym (take_all l.step-index c.args.script.now (omega (arith, c.steps-test.false)))) in
+    walk_ends fn l.work first (trees_of trees (take l.step-index c.args.script.now)) l.sequence gone _ i.following.puts c.finished.result (trees_of trees c.args.script.now) all c.finished.ensures

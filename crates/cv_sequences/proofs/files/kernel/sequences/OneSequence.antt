@@ -15,7 +15,8 @@ use Rattle.cv_steps_laws.specs.crypto.Steps.{IsOutcome, IsOutcomeBy, Outcome, re
 use Rattle.cv_steps_laws.specs.crypto.Steps as outcome
 use Rattle.cv_bound.specs.costs.Costs.{advantage_of}
 use Rattle.cv_kernel.specs.Closings.{closing_in, closing_of_items}
-use Rattle.cv_kernel.specs.Drawings.{Draws, DrawsAlong, DrawsNames, game_after, texts_for, told}
+use Rattle.cv_kernel.specs.Drawings.{Draws, DrawsAlong, game_after, told}
+use Rattle.cv_rule_array_names.specs.Drawings.{DrawsNames, texts_for}
 use Rattle.cv_kernel.specs.Proofs.{IsProof, IsTransition, Transition, closed_by, game_behind, push, shape_at, start}
 use Rattle.cv_kernel.specs.Sayings.{Accepted, MaySay, saying_by}
 use Rattle.cv_kernel.proofs.Drawn.{drawn_before, last_told, told_last}

@@ -1,6 +1,0 @@
-use Rattle.std.proofs.Common.{◌≡◌, map, take}
-use Rattle.cv_pool.specs.declared.names.names.NameId.{NameId}
-use Rattle.cv_follow.proofs.naming.names_of.Given as goal
-
-abbrev pub invariant-numbers : goal.invariant-numbers
-invariant-numbers l = map (λ (y : NameId). y.0) l.names.items ≡ take l.number-index l.numbers
