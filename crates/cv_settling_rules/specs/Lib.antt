@@ -1,0 +1,11 @@
+pub mod Conjuncts
+pub mod Spots
+pub mod Measure
+pub mod Candidates
+pub mod Bodies
+pub mod Variables
+pub mod Assignments
+pub mod Equations
+pub mod Comparisons
+pub mod Order
+pub mod Worked

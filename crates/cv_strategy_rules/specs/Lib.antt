@@ -1,0 +1,6 @@
+pub mod Legal
+pub mod Settling
+pub mod Moves
+pub mod Coming
+pub mod Places
+pub mod Worked
