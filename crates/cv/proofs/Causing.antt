@@ -74,8 +74,9 @@ use Rattle.cv.specs.Strategy.{FollowsScript, FollowsStrategy, HasVerdicts, Takes
 use Rattle.cv.specs.Strategy as strategy
 use Rattle.cv_scene.specs.Scenes.{Scene}
 use Rattle.cv_kernel.specs.Proofs.{closed_by, nodes_along}
+use Rattle.cv_moves.specs.Moves.{AreMoves}
 use Rattle.cv_steps.specs.Sequences.{scene}
-use Rattle.cv_follow.specs.Searches.{AreMoves, EndsSearch, Passes, by_limit, end_of_search, without_more}
+use Rattle.cv_follow.specs.Searches.{EndsSearch, Passes, by_limit, end_of_search, without_more}
 use Rattle.cv_report.specs.declared.report.Status.{Status}
 use Rattle.cv_report.specs.declared.report.Which.{Which}
 use Rattle.cv.proofs.Commands.{stops_under}
@@ -347,7 +348,7 @@ module _ (o : Outside) (r : Report) (f : File) (course : Course) (file : r.file 
     by_command : (c : Command) → r.command ≡ c → (u : Option ℕ) → unclosed ≡ u → w.steps ≡ found ++ [] → ComesFrom o r course (ends_under c (ended_with u))
     by_command command.Games g None q i = cause.done g (with_file (λ (g : File). HasAllSteps r g course) (all_steps i))
     by_command command.Games g (Some k) q i = cause.done g (with_file (λ (g : File). HasAllSteps r g course) (all_steps i))
-    by_command (command.Prove n more) g u q i = closed u q i
+    by_command (command.Prove n more query) g u q i = closed u q i
     by_command (command.Sample n p) g u q i = closed u q i
     by_command command.Nothing g u q i = closed u q i
 

@@ -13,7 +13,7 @@ use Rattle.cv.specs.Strategy.{MayHaveFile, SpeaksOfFile, ends_under, is_games, s
 
 pub games_is : (c : Command) → is_games c ≡ true → c ≡ command.Games
 games_is command.Games e = refl
-games_is (command.Prove n more) e = absurd (cc)
+games_is (command.Prove n more query) e = absurd (cc)
 games_is (command.Sample n p) e = absurd (cc)
 games_is command.Nothing e = absurd (cc)
 
@@ -28,7 +28,7 @@ shown_stops taken count sc ks step s (no_room n l e) = refl
 
 pub stops_under : (c : Command) (taken count : ℕ) (sc : Scene) (ks : List ℕ) (step : Tree) (s : Status) → Stops taken count sc ks step s → ends_under c s ≡ s
 stops_under command.Games taken count sc ks step s h = shown_stops taken count sc ks step s h
-stops_under (command.Prove n more) taken count sc ks step s h = refl
+stops_under (command.Prove n more query) taken count sc ks step s h = refl
 stops_under (command.Sample n p) taken count sc ks step s h = refl
 stops_under command.Nothing taken count sc ks step s h = refl
 
@@ -55,7 +55,7 @@ shown_may (status.Limit (Pool n)) h = tt
 
 pub may_under : (c : Command) (s : Status) → MayHaveFile s → MayHaveFile (ends_under c s)
 may_under command.Games s h = shown_may s h
-may_under (command.Prove n more) s h = h
+may_under (command.Prove n more query) s h = h
 may_under (command.Sample n p) s h = h
 may_under command.Nothing s h = h
 
@@ -84,13 +84,13 @@ shown_speaks (status.Limit (Pool n)) h = inr tt
 
 pub speaks_under : (c : Command) (s : Status) → SpeaksOfFile s → Speaks (ends_under c s)
 speaks_under command.Games s h = shown_speaks s h
-speaks_under (command.Prove n more) s h = inr h
+speaks_under (command.Prove n more query) s h = inr h
 speaks_under (command.Sample n p) s h = inr h
 speaks_under command.Nothing s h = inr h
 
 -- memory ends each command alike
 pub memory_under : (c : Command) → ends_under c status.Memory ≡ status.Memory
 memory_under command.Games = refl
-memory_under (command.Prove n more) = refl
+memory_under (command.Prove n more query) = refl
 memory_under (command.Sample n p) = refl
 memory_under command.Nothing = refl

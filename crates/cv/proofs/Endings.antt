@@ -42,13 +42,12 @@ use Rattle.cv_report.specs.outcome.Refused.{SaysNothing}
 use Rattle.cv.specs.Steps.{AreCloseSteps, HasCloseSteps}
 use Rattle.cv_report.specs.Lines.{Lines, games_along}
 use Rattle.cv_report.specs.Streams.{IsPut, Streams, is_streamed}
-use Rattle.cv_report.specs.Text.{IsLive}
 use Rattle.cv_report.specs.Writing.{TakesAll}
 use Rattle.cv_report.specs.declared.flow.Flow.{Flow}
 use Rattle.cv_report.specs.declared.stream.Stream.{Stream}
 use Rattle.cv_follow.specs.Courses.{Course, IsCourse, course_at, legs_of}
 use Rattle.cv.specs.Strategy.{AcceptsAll, EndsBy, EndsWell, EndsWithout, HasFile, HoldsAlong, IsExpected, IsGood, IsSound, Judged, Leads, Proceeds, SpeaksOfFile, TakesSteps, declared_in, ends_under, file_in, game_in, is_games, moves_in, steps_in}
-use Rattle.cv.specs.Words.{AreTold, IsLong, IsShort, alone, command_of, source_asked, text_asked}
+use Rattle.cv.specs.Words.{AreTold, IsLong, IsShort, command_of, source_asked, text_asked, without_library}
 use Rattle.cv_outside.specs.words.Forms.{Asked, Games, Prove, Sample}
 use Rattle.cv.proofs.Causing.{refusal_cause, where_told}
 use Rattle.cv.proofs.Commands.{Speaks, speaks_under}
@@ -257,16 +256,13 @@ steps_without r e = subst (λ (o : Option SourceFile). IfSome o (λ f. (c : Cour
 pub calls_without : (r : Report) → r.file ≡ None → HasBoundedCalls r
 calls_without r e = subst (λ (o : Option SourceFile). IfSome o (λ f. (c : Course) → Leads r f c → AreBoundedCalls r f c)) (sym e) tt
 
-pub live_without : (r : Report) → r.file ≡ None → IsLive r
-live_without r e = subst (λ (o : Option SourceFile). IfSome o (λ f. f.game.root.0 < length r.work.pool.trees)) (sym e) tt
-
 -- the course of no file
 abbrev pub nowhere : Course
 nowhere = course_at Empty
 
 -- no file is read from a source, the told one where there is any
 abbrev told_source : Option Given → Given
-told_source None = alone []
+told_source None = without_library []
 told_source (Some source) = source
 
 are_told : (told : Option Given) → AreTold told (told_source told)
@@ -384,13 +380,13 @@ pub untold_complete : (told : Option Given) (P : Given → Type 0) → told ≡ 
 untold_complete told P e = subst (λ (t : Option Given). IfSome t P) (sym e) tt
 
 pub text_untold : (told : Option Files) (asked : Asked) (n : ℕ) → text_asked asked ≡ Some n → source_asked told (Some asked) ≡ None
-text_untold told (Prove file moves more library) n e = absurd (cc)
+text_untold told (Prove file moves more library query) n e = absurd (cc)
 text_untold told (Games file library) n e = absurd (cc)
 text_untold told (Sample m true) n e = absurd (cc)
 text_untold told (Sample m false) n e = refl
 
 pub text_no_games : (asked : Asked) (n : ℕ) → text_asked asked ≡ Some n → command_of (Some asked) ≡ command.Games → ⊥
-text_no_games (Prove file moves more library) n e g = absurd (cc)
+text_no_games (Prove file moves more library query) n e g = absurd (cc)
 text_no_games (Games file library) n e g = absurd (cc)
 text_no_games (Sample m true) n e g = absurd (cc)
 text_no_games (Sample m false) n e g = (cc)
@@ -400,4 +396,4 @@ pub memory_complete : (c : Command) (told : Option Given) (s : Status) → s ≡
 memory_complete c None s e = tt
 memory_complete c (Some b) s e = subst (λ (x : Status). IsComplete c b x) (sym e) (record { short = λ k. tt; long = λ k. inr refl })
 
-pub ruleset without_file = (sound_without, close_without, steps_without, calls_without, live_without, memory_begins, words_begins, text_begins, text_untold, text_no_games, untold_complete)
+pub ruleset without_file = (sound_without, close_without, steps_without, calls_without, memory_begins, words_begins, text_begins, text_untold, text_no_games, untold_complete)

@@ -21,7 +21,7 @@ use Rattle.cv_kernel.specs.Proofs.{IsProof, closed_by, nodes_along}
 use Rattle.cv_kernel.specs.Proofs as proofs
 use Rattle.cv_meaning.specs.Queries.{queries_in}
 use Rattle.cv_parse.specs.Declaring.{IsBelow}
-use Rattle.cv_pool.proofs.Growth.{Grows_length, Grows_refl}
+use Rattle.cv_pool.proofs.Growth.{Grows_refl}
 use Rattle.cv_report.specs.Streams.{Streams, is_streamed, lines_at}
 use Rattle.cv_report.specs.declared.report.Command.{Command}
 use Rattle.cv_report.specs.declared.report.Report.{Report}
@@ -66,7 +66,7 @@ first_of w f = tree_at w.pool.trees (Some f.game.root)
 abbrev Puts : (middle after : Option (List ℕ)) → (mid new : ℕ) → Work → File → (s t : Stream) → Course → Type 0
 Puts middle after mid new start f s t c = PutsCourse middle after mid new start (first_of start f) s t c
 
--- the file holds the same in the end, and its game is there
+-- the file holds the same in the end
 
 abbrev Stays : (start now : Work) → File → Option (Vec Step Global) → Type 0
 Stays start now f script = content_in (take (length start.names) now.names) now.decls.own now.pool.trees now.decls.list f.game.root script ≡ content_at start f.game.root script
@@ -74,20 +74,17 @@ Stays start now f script = content_in (take (length start.names) now.names) now.
 stays : (start now : Work) (f : File) (script : Option (Vec Step Global)) → IsOver start f script → {found : Bool} {P : Course → Type 0} → IsReached found start now (first_of start f) P → Stays start now f script
 stays start now f script o h = content_grown start now f.game.root script h.grows h.names h.decls o.here o.below o.live
 
-game_stays : (start now : Work) (f : File) (script : Option (Vec Step Global)) → IsOver start f script → {found : Bool} {P : Course → Type 0} → IsReached found start now (first_of start f) P → f.game.root.0 < length now.pool.trees
-game_stays start now f script o h = let more = Grows_length start.pool now.pool h.grows in let here = o.here in omega arith
-
 -- so its report and what was put are those of the course
 module _ (start now : Work) (f : File) (command : Command) (script : Option (Vec Step Global)) (verdicts : Vec Verdict Global) (end : Status) where
   abbrev pub report : Report
   report = record { work = now; file = Some f; command = command; script = script; verdicts = verdicts; status = end }
 
-  pub runs : (before middle after : Option (List ℕ)) (old mid new : ℕ) (s t : Stream) → Streams (is_streamed command) (lines_at start f.game.root) before middle old mid s → f.game.root.0 < length now.pool.trees → Stays start now f script
+  pub runs : (before middle after : Option (List ℕ)) (old mid new : ℕ) (s t : Stream) → Streams (is_streamed command) (lines_at start f.game.root) before middle old mid s → Stays start now f script
       → (h : IsReached (is_without_block (script_in start.pool.trees script)) start now (first_of start f) (Puts middle after mid new start f s t))
       → (end ≢ status.Memory → now.names ≡ names_behind start.names h.course.tables) → MayHaveFile end → HasVerdicts report h.course → (end ≡ status.Memory) ⊎ ProceedsBy report f h.course (steps_in report)
       → Runs (content_at start f.game.root script) f (parameters_in start.decls.list) before after old new t report
   unfolding legs_of
-  runs before middle after old mid new s t begun here same h drawn may said by = record {
+  runs before middle after old mid new s t begun same h drawn may said by = record {
     course = h.course;
     has = record {
       file = refl;
@@ -99,7 +96,6 @@ module _ (start now : Work) (f : File) (command : Command) (script : Option (Vec
         by = by;
       };
       status = may;
-      live = here;
     };
     ordered = ap (λ (v : DeclsView). parameters_in v.list) h.decls;
     streams = subst (λ b. Streams b (lines_of start.names (parameters_in start.decls.list) (first_of start f) h.course) before after old new t) (and_true (is_streamed command)) (h.puts (is_streamed command) before old begun);
@@ -118,7 +114,7 @@ module _ (start now : Work) (f : File) (command : Command) (w : Walk) (o : IsOve
   FoundRuns = Runs (content_at start f.game.root None) f (parameters_in start.decls.list) before after old new t found_report
 
   pub search_runs : Streams (is_streamed command) (lines_at start f.game.root) before middle old mid s → HasSearched start now (first_of start f) moves (Puts middle after mid new start f s t) w → FoundRuns
-  search_runs begun h = go h.stopped
+  search_runs begun h = go h.outcome
     where
       ds : List Declaration
       ds = declarations start.pool.trees start.decls.list
@@ -130,17 +126,17 @@ module _ (start now : Work) (f : File) (command : Command) (w : Walk) (o : IsOve
       same = stays start now f None o h.reached
 
       by : (w.status ≢ status.Memory → now.names ≡ names_behind start.names c.tables) → MayHaveFile w.status → HasVerdicts found_report c → (w.status ≡ status.Memory) ⊎ ProceedsWithout (is_games command) found_report c → FoundRuns
-      by = runs start now f command None w.verdicts w.status before middle after old mid new s t begun (game_stays start now f None o h.reached) same h.reached
+      by = runs start now f command None w.verdicts w.status before middle after old mid new s t begun same h.reached
 
       go : HasStopped start.names now (queries_in ds) c (FindsAlong (length now.pool.trees) moves ds start.decls.own c) w → FoundRuns
-      go (walks.spent m v) = by (λ n. absurd (n m)) (subst MayHaveFile (sym m) tt) (strategy.none m v) (inl m)
-      go (walks.ended e v n) =
+      go (walks.out_of_memory m v) = by (λ n. absurd (n m)) (subst MayHaveFile (sym m) tt) (strategy.none m v) (inl m)
+      go (walks.with_verdicts e v n) =
           let finds = subst (λ k. FindsAlong (length now.pool.trees) k (declared_in found_report) now.decls.own c w.status) allowed (subst (λ (d : Content). FindsAlong (length now.pool.trees) moves d.declarations d.own c w.status) (sym same) e) in
           by (λ m. n) (search_may _ _ _ _ _ _ _ w.status e.ends) (same_verdicts found_report c (content_at start f.game.root None) (sym (ap (λ (d : Content). d.declarations) same)) v)
           (inr (subst (λ b. ProceedsWithout b found_report c) (sym proves) finds))
 
 -- a run that takes no step, since the games are asked for
-module _ (start : Work) (f : File) (command : Command) (verdicts : Vec Verdict Global) (end : Status) (here : f.game.root.0 < length start.pool.trees) (games : is_games command ≡ true) (before middle : Option (List ℕ)) (old mid : ℕ) (s : Stream) where
+module _ (start : Work) (f : File) (command : Command) (verdicts : Vec Verdict Global) (end : Status) (games : is_games command ≡ true) (before middle : Option (List ℕ)) (old mid : ℕ) (s : Stream) where
   abbrev games_report : Report
   games_report = report start start f command None verdicts end
 
@@ -162,7 +158,7 @@ module _ (start : Work) (f : File) (command : Command) (verdicts : Vec Verdict G
         decls = refl;
         puts = λ shows first count h. h;
       } in
-      runs start start f command None verdicts end before middle middle old mid mid s s begun here
+      runs start start f command None verdicts end before middle middle old mid mid s s begun
       (ap (λ (ns : List (List ℕ)). content_in ns start.decls.own start.pool.trees start.decls.list f.game.root None) whole) reached (λ n. refl) may said (by p)
     where
       by : (end ≡ status.Memory) ⊎ ShowsFile games_report first_course → (end ≡ status.Memory) ⊎ ProceedsWithout (is_games command) games_report first_course
@@ -216,7 +212,7 @@ module _ (start now : Work) (f : File) (command : Command) (script : Vec Step Gl
   memory m = under ∙ (ap (ends_under command) m ∙ memory_under command)
 
   by_block : Streams (is_streamed command) (lines_at start f.game.root) before middle old mid s → IsBlockWalk (length start.pool.trees) start now (first_of start f) block (queries_in content.declarations) (Puts middle after mid new start f s t) w → FollowedRuns
-  by_block begun h = go h.walk.stopped
+  by_block begun h = go h.walk.outcome
     where
       c : Course
       c = h.walk.reached.course
@@ -232,11 +228,11 @@ module _ (start now : Work) (f : File) (command : Command) (script : Vec Step Gl
           record { steps = n.0; room = n.1; stands = n.2; end = w.status; ends = n.3; ended = under }
 
       by : (end ≢ status.Memory → now.names ≡ names_behind start.names c.tables) → MayHaveFile end → HasVerdicts script_report c → (end ≡ status.Memory) ⊎ FollowsScript script_report f (trees_of now.pool.trees script.items) c → FollowedRuns
-      by = runs start now f command (Some script) w.verdicts end before middle after old mid new s t begun (game_stays start now f (Some script) o h.walk.reached) same h.walk.reached
+      by = runs start now f command (Some script) w.verdicts end before middle after old mid new s t begun same h.walk.reached
 
       go : HasStopped start.names now (queries_in content.declarations) c (EndsAlong h.room content.declarations content.own content.game h.steps (queries_in content.declarations) c) w → FollowedRuns
-      go (walks.spent m v) = by (λ n. absurd (n (memory m))) (subst MayHaveFile (sym (memory m)) tt) (strategy.none (memory m) v) (inl (memory m))
-      go (walks.ended e v n) =
+      go (walks.out_of_memory m v) = by (λ n. absurd (n (memory m))) (subst MayHaveFile (sym (memory m)) tt) (strategy.none (memory m) v) (inl (memory m))
+      go (walks.with_verdicts e v n) =
           by (λ m. n) (subst MayHaveFile (sym under) (may_under command w.status (ends_may (h.room + nodes_along content.declarations (known_to content.own) content.game c.proof) (length c.proof) (scene content.declarations (known_to content.own) c.last) (closed_by c.proof) (queries_in content.declarations) e.left w.status e.ends)))
           (same_verdicts script_report c content (sym (ap (λ (d : Content). d.declarations) same)) v) (inr (follows e))
 

@@ -51,8 +51,9 @@ use Rattle.cv_report.specs.declared.report.Which.{Which}
 use Rattle.cv_steps.specs.Sequences.{scene}
 use Rattle.cv_follow.specs.Scripts.{Stops, first_open, is_proved}
 use Rattle.cv_kernel.specs.Followed.{known_to}
+use Rattle.cv_moves.specs.Moves.{AreMoves}
 use Rattle.cv_follow.specs.Fillings.{StandsFor}
-use Rattle.cv_follow.specs.Searches.{AreMoves, Passes}
+use Rattle.cv_follow.specs.Searches.{Passes}
 use Rattle.cv_follow.specs.Courses.{Course}
 use Rattle.cv.specs.Strategy.{Leads, declared_in, game_in, moves_in, nodes_in, steps_in}
 use Rattle.cv.specs.Words.{IsLong, source_asked, text_asked}

@@ -5,7 +5,6 @@ use Rattle.cv_accept.specs.Accepted.{Content}
 use Rattle.cv_costs.specs.Factors.{parameters_in}
 use Rattle.cv_report.specs.declared.report.Report.{Report}
 use Rattle.cv_report.specs.declared.report.Status.TheVariants as status
-use Rattle.cv_report.specs.Text.{IsLive}
 use Rattle.cv_follow.specs.Courses.{Course, IsCourse, lines_of, names_behind}
 use Rattle.cv_follow.specs.Scripts.{is_without_block}
 use Rattle.cv_report.specs.Printed.{is_shown}
@@ -21,7 +20,6 @@ pub record HasRun (c : Content) (f : File) (r : Report) (k : Course) : Type 0 wh
   pub drawn : r.status ≢ status.Memory → r.work.names ≡ names_behind c.names k.tables
   pub proceeds : Proceeds r f k (steps_in r)
   pub status : MayHaveFile r.status
-  pub live : IsLive r
 
 -- So it is, and so much of the lines of this course was put, where the parameters have this order.
 pub record Runs (c : Content) (f : File) (order : List ℕ) (before now : Option (List ℕ)) (old new : ℕ) (s : Stream) (r : Report) : Type 0 where

@@ -59,10 +59,15 @@ shown s = s
 
 -- how many moves a command allows
 abbrev pub moves_in : Command → ℕ
-moves_in (command.Prove moves more) = moves
+moves_in (command.Prove moves more query) = moves
 moves_in (command.Sample n prove) = 32
 moves_in command.Games = 0
 moves_in command.Nothing = 0
+
+-- a command asks for further moves
+abbrev pub asks_more : Command → Bool
+asks_more (command.Prove moves more query) = more
+asks_more c = false
 
 -- how a run ends under a command whose proof block was followed to such an end
 abbrev pub ends_under : Command → Status → Status

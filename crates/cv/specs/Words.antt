@@ -5,6 +5,7 @@ use Rattle.std.specs.declared.alloc.Global.{Global}
 use Rattle.std.specs.declared.string.String.{String}
 use Rattle.cv_outside.specs.Told.{Files, bytes_of}
 use Rattle.cv_accept.specs.Accepted.{most_bytes}
+use Rattle.cv_alone.specs.Alone.{alone}
 use Rattle.cv_library.specs.Givens.{Given}
 use Rattle.cv_report.specs.declared.report.Command.{Command}
 use Rattle.cv_report.specs.declared.report.Command.TheVariants as command
@@ -25,7 +26,7 @@ library_asked None = []
 library_asked (Some name) = name ∷ []
 
 abbrev pub files_asked : Option Asked → List Text
-files_asked (Some (Prove file moves more library)) = file ∷ library_asked library
+files_asked (Some (Prove file moves more library query)) = file ∷ library_asked library
 files_asked (Some (Games file library)) = file ∷ library_asked library
 files_asked (Some (Sample n prove)) = []
 files_asked None = []
@@ -37,14 +38,14 @@ text_asked asked = None
 
 -- the command of a report
 abbrev pub command_of : Option Asked → Command
-command_of (Some (Prove file moves more library)) = command.Prove moves more
+command_of (Some (Prove file moves more library query)) = command.Prove moves more query
 command_of (Some (Games file library)) = command.Games
 command_of (Some (Sample n prove)) = command.Sample n prove
 command_of None = command.Nothing
 
 -- a sample has no library
-abbrev pub alone : List ℕ → Given
-alone bytes = record { bytes = bytes; library = None }
+abbrev pub without_library : List ℕ → Given
+without_library bytes = record { bytes = bytes; library = None }
 
 -- what stands under the names of a file and a library, where the shelf tells its files
 
@@ -54,11 +55,16 @@ files_under files name library = record { bytes = bytes_of files name; library =
 abbrev pub source_under : Option Files → Text → Option Text → Option Given
 source_under told name library = option_map (λ files. files_under files name library) told
 
+-- where one query is asked alone, the file is read without its other queries and its proof block
+abbrev pub with_query : Option ℕ → Given → Given
+with_query None source = source
+with_query (Some k) source = record source { bytes = alone k source.bytes }
+
 -- what a command reads, where it is told: what stands under the names of its file and library, or a sample of which a proof is asked
 abbrev pub source_asked : Option Files → Option Asked → Option Given
-source_asked told (Some (Prove file moves more library)) = source_under told file library
+source_asked told (Some (Prove file moves more library query)) = option_map (with_query query) (source_under told file library)
 source_asked told (Some (Games file library)) = source_under told file library
-source_asked told (Some (Sample n true)) = Some (alone (file_of n))
+source_asked told (Some (Sample n true)) = Some (without_library (file_of n))
 source_asked told (Some (Sample n false)) = None
 source_asked told None = None
 

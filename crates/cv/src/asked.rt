@@ -2,15 +2,16 @@ ghost use Rattle.std.specs.Prelude.{◌≡◌, ◌∷◌, IfOk, IfSome, IsErrOf,
 ghost use Rattle.cv_outside.specs.Causes.{Rose};
 ghost use Rattle.cv_outside.specs.words.sample.Samples.{file_of as sample_of};
 ghost use Rattle.cv_outside.specs.words.Words.{asked_of};
-ghost use Rattle.cv.specs.Strategy.{ends_under, is_games as games, moves_in, shown};
+ghost use Rattle.cv.specs.Strategy.{asks_more, ends_under, is_games as games, moves_in, shown};
 ghost use Rattle.cv.specs.Sources.{given_of};
-ghost use Rattle.cv.specs.Words.{AreTold, AsksOnly, IsLong, IsShort, alone, command_of as command_by, files_asked, library_asked, source_asked, source_under, text_asked as text_by};
+ghost use Rattle.cv.specs.Words.{AreTold, AsksOnly, IsLong, IsShort, command_of as command_by, files_asked, library_asked, source_asked, source_under, text_asked as text_by, with_query, without_library};
 
+use cv_alone::leave_alone;
 use cv_outside::words::Request;
 use cv_outside::words::sample::file_of;
 use cv_outside::{FetchError, Shelf};
 use cv_report::{Cause, Command, Status};
-use std::alloc::Global;
+use std::alloc::{AllocError, Global};
 
 /// The most bytes of a file.
 const MOST_BYTES: usize = 1_048_576;
@@ -21,15 +22,12 @@ pub fn command_of(request: Request<'_>) -> Command
 {
     match request {
         Request::Prove {
-            file: _,
             moves,
             more,
-            library: _,
-        } => Command::Prove { moves, more },
-        Request::Games {
-            file: _,
-            library: _,
-        } => Command::Games,
+            query,
+            ..
+        } => Command::Prove { moves, more, query },
+        Request::Games { .. } => Command::Games,
         Request::Sample { number, prove } => Command::Sample { number, prove },
     }
 }
@@ -43,20 +41,9 @@ pub fn text_asked(request: Request<'_>) -> Option<u32>
             number,
             prove: false,
         } => Some(number),
-        Request::Sample {
-            number: _,
-            prove: true,
-        } => None,
-        Request::Prove {
-            file: _,
-            moves: _,
-            more: _,
-            library: _,
-        } => None,
-        Request::Games {
-            file: _,
-            library: _,
-        } => None,
+        Request::Sample { prove: true, .. } => None,
+        Request::Prove { .. } => None,
+        Request::Games { .. } => None,
     }
 }
 
@@ -66,11 +53,8 @@ pub fn is_games(command: Command) -> bool
 {
     match command {
         Command::Games => true,
-        Command::Prove { moves: _, more: _ } => false,
-        Command::Sample {
-            number: _,
-            prove: _,
-        } => false,
+        Command::Prove { .. } => false,
+        Command::Sample { .. } => false,
         Command::Nothing => false,
     }
 }
@@ -83,25 +67,21 @@ pub fn moves_of(command: Command) -> u32
     ensures { result ≡ moves_in command }
 {
     match command {
-        Command::Prove { moves, more: _ } => moves,
+        Command::Prove { moves, .. } => moves,
         Command::Games => 0,
-        Command::Sample {
-            number: _,
-            prove: _,
-        } => MOVES,
+        Command::Sample { .. } => MOVES,
         Command::Nothing => 0,
     }
 }
 
 /// Whether a command asks for further moves.
-pub fn goes_further(command: Command) -> bool {
+pub fn goes_further(command: Command) -> bool
+    ensures { result ≡ asks_more command }
+{
     match command {
-        Command::Prove { moves: _, more } => more,
+        Command::Prove { more, .. } => more,
         Command::Games => false,
-        Command::Sample {
-            number: _,
-            prove: _,
-        } => false,
+        Command::Sample { .. } => false,
         Command::Nothing => false,
     }
 }
@@ -123,11 +103,8 @@ pub fn end_under(command: Command, status: Status) -> Status
 {
     match command {
         Command::Games => end_of_games(status),
-        Command::Prove { moves: _, more: _ } => status,
-        Command::Sample {
-            number: _,
-            prove: _,
-        } => status,
+        Command::Prove { .. } => status,
+        Command::Sample { .. } => status,
         Command::Nothing => status,
     }
 }
@@ -141,10 +118,10 @@ pub struct Source {
 
 /// The bytes of a sample.
 fn sample(alloc: Global, number: u32) -> Result<Source, FetchError>
-    ensures bytes { IfOk result (λ s. given_of s ≡ alone (sample_of number)) }
+    ensures bytes { IfOk result (λ s. given_of s ≡ without_library (sample_of number)) }
     ensures few { IfOk result (λ s. IsShort (given_of s)) }
     ensures never { ¬ IsErrOf result FetchError.Failed }
-    ensures long { IsErrOf result FetchError.Long → IsLong (alone (sample_of number)) }
+    ensures long { IsErrOf result FetchError.Long → IsLong (without_library (sample_of number)) }
 {
     let Ok(bytes) = file_of(alloc, number) else {
         return Err(FetchError::OutOfMemory);
@@ -192,6 +169,37 @@ fn with_library<F: Shelf>(
     })
 }
 
+/// The same, where one query may be asked alone.
+#[tactic(auto, using(crate::proofs::Sources::sources))]
+fn for_query<F: Shelf>(
+    alloc: Global,
+    file: &str,
+    library: Option<&str>,
+    query: Option<u32>,
+    shelf: &mut F,
+) -> Result<Source, FetchError>
+    ensures told { IfOk result (λ s. AreTold (option_map (with_query query)
+        (source_under (F.told shelf.old) file.now (option_map (λ l. l.now) library.entry)))
+        (given_of s)) }
+    ensures few { IfOk result (λ s. IsShort (given_of s)) }
+    ensures failed { IsErrOf result FetchError.Failed
+        → Rose (F.faults shelf.old) (F.faults shelf.new) }
+    ensures long { IsErrOf result FetchError.Long
+        → IfSome (option_map (with_query query) (source_under (F.told shelf.old) file.now
+        (option_map (λ l. l.now) library.entry))) IsLong }
+    ensures asked { AsksOnly (file.now ∷ library_asked (option_map (λ l. l.now) library.entry))
+        (F.asked shelf.old) (F.asked shelf.new) }
+{
+    let mut source = with_library(alloc, file, library, shelf)?;
+    let Some(number) = query else {
+        return Ok(source);
+    };
+    match leave_alone(alloc, &mut source.bytes, number) {
+        Ok(()) => Ok(source),
+        Err(AllocError) => Err(FetchError::OutOfMemory),
+    }
+}
+
 /// What a request reads: its file and its library, or a sample.
 #[tactic(auto, using(crate::proofs::Sources::sources))]
 pub fn fetch_source<F: Shelf>(
@@ -212,18 +220,11 @@ pub fn fetch_source<F: Shelf>(
     match request {
         Request::Prove {
             file,
-            moves: _,
-            more: _,
             library,
-        } => with_library(alloc, file, library, shelf),
+            query,
+            ..
+        } => for_query(alloc, file, library, query, shelf),
         Request::Games { file, library } => with_library(alloc, file, library, shelf),
-        Request::Sample {
-            number,
-            prove: true,
-        } => sample(alloc, number),
-        Request::Sample {
-            number,
-            prove: false,
-        } => sample(alloc, number),
+        Request::Sample { number, .. } => sample(alloc, number),
     }
 }

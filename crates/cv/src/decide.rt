@@ -6,7 +6,6 @@ ghost use Rattle.cv_parse.specs.Declaring.{IsBelow};
 ghost use Rattle.cv_scope_rules.specs.Phrases.{IsWellFormed};
 ghost use Rattle.cv_accept.specs.Works.{HasSteps, Reads, content_at, content_nodes};
 ghost use Rattle.cv_accept.specs.Accepted.{most_pool};
-ghost use Rattle.cv_report.specs.Text.{IsLive};
 ghost use Rattle.cv_scene_view.specs.Kept.{scene_of};
 ghost use Rattle.cv_kernel_crypto.specs.Applied.{HasEquivalences};
 ghost use Rattle.cv_costs.specs.Factors.{parameters_in};
@@ -171,7 +170,6 @@ pub fn judge<K: Sink>(
     ensures steps { HasCloseSteps result.report }
     ensures calls { HasBoundedCalls result.report }
     ensures command { result.report.command ≡ command }
-    ensures live { IsLive result.report }
     ensures begins { (o : Outside) → AreTold o.told (given_of source.now)
         → Begins o (K.taken sink.old) (K.taken sink.new) (K.faults sink.old) (K.faults sink.new)
         result.stream result.report }

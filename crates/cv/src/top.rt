@@ -1,6 +1,5 @@
 ghost use Rattle.std.specs.Prelude.{◌≡◌, ◌≢◌, Some, map, IfSome, None, string_bytes};
 ghost use Rattle.cv_outside.specs.Causes.{NoFault};
-ghost use Rattle.cv_report.specs.Text.{IsLive};
 ghost use Rattle.cv_report.specs.outcome.Refused.{SaysNothing};
 ghost use Rattle.cv_report.specs.outcome.Written.{EndsBy};
 ghost use Rattle.cv_outside.specs.words.Words.{asked_of};
@@ -38,7 +37,6 @@ fn answer<F: Shelf, K: Sink>(
     ensures steps { HasCloseSteps result.report }
     ensures calls { HasBoundedCalls result.report }
     ensures command { result.report.command ≡ command_by (Some (asked_of request.entry)) }
-    ensures live { IsLive result.report }
     ensures never { (result.report.status ≢ Status.Words)
         × (result.report.status ≢ Status.Write) }
     ensures asked { AsksOnly (files_asked (Some (asked_of request.entry)))
@@ -78,7 +76,6 @@ fn decide<F: Shelf, K: Sink>(alloc: Global, words: &[String], shelf: &mut F, sin
     ensures steps { HasCloseSteps result.report }
     ensures calls { HasBoundedCalls result.report }
     ensures words { SaysOfWords (map string_bytes words.now) result.report }
-    ensures live { IsLive result.report }
     ensures never { result.report.status ≢ Status.Write }
     ensures asked { AsksOnly (files_asked (asked_by words.now))
         (F.asked shelf.old) (F.asked shelf.new) }

@@ -96,7 +96,7 @@ fn follow_accepted(alloc: Global, work: Work, accepted: Accepted) -> Result<Foll
         (tree_at work.pool.trees (Some accepted.file.game.root)) }
 {
     let mut work = work;
-    let mut stream = Stream::kept(alloc);
+    let mut stream = Stream::keeping_steps(alloc);
     let walk = walk_of(alloc, &mut work, &accepted, &mut stream)?;
     let Accepted { file, script } = accepted;
     Ok(Followed {

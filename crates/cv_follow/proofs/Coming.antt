@@ -8,6 +8,7 @@ use Rattle.cv_kernel.specs.declared.error.PushError.{PushError}
 use Rattle.cv_kernel.specs.declared.error.PushError.TheVariants as fault
 use Rattle.cv_kernel.specs.declared.sequence.Sequence.{Sequence}
 use Rattle.cv_parse.specs.Declaring.{IsBelow}
+use Rattle.cv_moves.specs.Moves.{is_move}
 use Rattle.cv_pool.specs.declared.node.NodeId.{NodeId}
 use Rattle.cv_report.specs.declared.report.Status.TheVariants as status
 use Rattle.cv_report.specs.declared.report.Which.{Which}
@@ -25,7 +26,7 @@ use Rattle.cv_follow.specs.declared.searching.Tried.{Tried}
 use Rattle.cv_follow.specs.declared.searching.Tried.TheVariants.{Accepted, Nothing, Passed, Refused}
 use Rattle.cv_follow.specs.Courses.{Table}
 use Rattle.cv_kernel.specs.Followed.{known_to}
-use Rattle.cv_follow.specs.Searches.{Comes, ComesTo, HasFound, IsFailed, IsKept, IsMore, IsShort, MayTry, Passes, by_room, by_step, is_move, tried_of}
+use Rattle.cv_follow.specs.Searches.{Comes, ComesTo, HasFound, IsFailed, IsKept, IsMore, IsShort, MayTry, Passes, by_room, by_step, tried_of}
 use Rattle.cv_follow.proofs.Tries.{found_again, game_stays, kept_back, kept_both, kept_by, stops_by}
 
 -- a step more stands behind the same where nothing was taken before

@@ -49,7 +49,7 @@ use Rattle.cv_follow.proofs.Coming.{more_before}
 use Rattle.cv_follow.proofs.Courses.{lines_put, lines_same, puts_leg, puts_nothing, puts_then}
 use Rattle.cv_follow.proofs.Following.{asked, split_here, stops_wider}
 use Rattle.cv_follow.proofs.Gone.{course_is, grows_kept, reached_cut, reached_so_far, tables_many}
-use Rattle.cv_follow.proofs.Left.{walk_ends, walk_spent, walk_stops}
+use Rattle.cv_follow.proofs.Left.{walk_ends, walk_out_of_memory, walk_stops}
 use Rattle.cv_follow.proofs.Searches.{leg_found}
 use Rattle.cv_follow.proofs.Tries.{found_again, found_back, found_more, found_none, game_stays, kept_both, may_again, steps_counted, stops_by}
 
@@ -362,7 +362,7 @@ module _ (start old new : Work) (first : Tree) (front : List Tree) (x : Tree) (s
       record {
         steps = rest.steps;
         fills = rest.fills;
-        walk = walk_spent (length new.pool.trees) start new first rest.steps (asked start) (PutsCourse t0 t2 f0 f2 start first st0 st2) w
+        walk = walk_out_of_memory (length new.pool.trees) start new first rest.steps (asked start) (PutsCourse t0 t2 f0 f2 start first st0 st2) w
             (record { course = r.course; is = r.is; grows = r.grows; names = r.names; decls = r.decls; puts = puts_on r.course r.puts }) a b;
       }
 

@@ -21,7 +21,7 @@ use Rattle.cv_follow.specs.declared.walk.Walk.{Walk}
 use Rattle.cv_follow.specs.Courses.{Course, IsReached}
 use Rattle.cv_follow.specs.Scripts.{Stops, first_open, verdicts_of}
 use Rattle.cv_kernel.specs.Followed.{known_to}
-use Rattle.cv_follow.specs.Walks.{EndsAlong, HasGone, HasStopped, IsStopped, IsWalk, course_of, ended, spent}
+use Rattle.cv_follow.specs.Walks.{EndsAlong, HasGone, HasStopped, IsStopped, IsWalk, course_of, out_of_memory, with_verdicts}
 use Rattle.cv_kernel.proofs.Closings.{numbers_same, sums_same}
 use Rattle.cv_follow.proofs.Verdicts.{verdicts_same}
 use Rattle.cv_follow.proofs.Following.{asked, asked_by}
@@ -42,12 +42,12 @@ module _ {free : Bool} {before : ℕ} (start now : Work) (first : Tree) {front :
 
   -- where memory lasted the run ends so
   pub stopped_left : (end : Status) (Ends : Status → Type 0) (w : Walk) → Ends end → IsStopped (sum_in s.closed) (queries now.decls.list) end w → HasStopped start.names now (asked start) (course_of h) Ends w
-  stopped_left end Ends w d (spent a b) = spent a b
-  stopped_left end Ends w d (ended a b) = ended (subst Ends (sym a) d) (verdicts_left w.verdicts.items b) h.last
+  stopped_left end Ends w d (out_of_memory a b) = out_of_memory a b
+  stopped_left end Ends w d (with_verdicts a b) = with_verdicts (subst Ends (sym a) d) (verdicts_left w.verdicts.items b) h.last
 
 -- a walk that memory ran out in
-pub walk_spent : (before : ℕ) (start now : Work) (first : Tree) (steps queries : List Tree) (Puts : Course → Type 0) (w : Walk) → IsReached false start now first Puts → w.status ≡ status.Memory → w.verdicts.items ≡ [] → IsWalk before start now first steps queries Puts w
-walk_spent before start now first steps queries Puts w r a b = record { reached = r; stopped = spent a b }
+pub walk_out_of_memory : (before : ℕ) (start now : Work) (first : Tree) (steps queries : List Tree) (Puts : Course → Type 0) (w : Walk) → IsReached false start now first Puts → w.status ≡ status.Memory → w.verdicts.items ≡ [] → IsWalk before start now first steps queries Puts w
+walk_out_of_memory before start now first steps queries Puts w r a b = record { reached = r; outcome = out_of_memory a b }
 
 module _ {before : ℕ} (start now : Work) (first : Tree) (front : List Tree) (s : Sequence) (h : HasGone false before start now first front s) (Puts : Course → Type 0) (puts : Puts (course_of h)) (w : Walk) where
   abbrev ds : List Declaration
@@ -56,7 +56,7 @@ module _ {before : ℕ} (start now : Work) (first : Tree) (front : List Tree) (s
   walk_by : (steps : List Tree) (end : Status) → EndsAlong before ds start.decls.own first steps (asked start) (course_of h) end → IsStopped (sum_in s.closed) (queries now.decls.list) end w → IsWalk before start now first steps (asked start) Puts w
   walk_by steps end e d = record {
     reached = record { course = course_of h; is = course_is start now first s h; grows = h.grows; names = h.names; decls = h.decls; puts = puts };
-    stopped = stopped_left start now first s h end (EndsAlong before ds start.decls.own first steps (asked start) (course_of h)) w e d;
+    outcome = stopped_left start now first s h end (EndsAlong before ds start.decls.own first steps (asked start) (course_of h)) w e d;
   }
 
   -- the script ends

@@ -3,7 +3,6 @@ pub mod Following
 pub mod Entries
 pub mod Drawing
 pub mod Gone
-pub mod Moves
 pub mod Tries
 pub mod Behind
 pub mod Coming
@@ -12,6 +11,7 @@ pub mod Left
 pub mod Plain
 pub mod Fillings
 pub mod Searches
+pub mod Rehearsed
 pub mod Verdicts
 pub mod QueryLists
 pub mod Growing

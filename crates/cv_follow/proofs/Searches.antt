@@ -10,6 +10,8 @@ use Rattle.cv_kernel.specs.Proofs.{closed_by}
 use Rattle.cv_kernel.specs.Sequences.{game_in}
 use Rattle.cv_kernel.specs.declared.sequence.Sequence.{Sequence}
 use Rattle.cv_meaning.specs.Queries.{queries_in}
+use Rattle.cv_moves.specs.Moves.{AreMoves}
+use Rattle.cv_moves.proofs.Moves.{moves_counted, moves_few}
 use Rattle.cv_parse.specs.Declaring.{IsBelow}
 use Rattle.cv_report.specs.declared.report.Status.{Status}
 use Rattle.cv_report.specs.declared.report.Status.TheVariants as status
@@ -32,12 +34,11 @@ use Rattle.cv_follow.specs.declared.walk.Walk.{Walk}
 use Rattle.cv_follow.specs.Courses.{Course, IsLegOf, IsReached, PutsCourse, PutsOn, course_at, leg_of, lines_in}
 use Rattle.cv_follow.specs.Scripts.{first_open}
 use Rattle.cv_kernel.specs.Followed.{known_to}
-use Rattle.cv_follow.specs.Searches.{AreMoves, ComesTo, CutsBehind, EndedBy, EndsSearch, FindsAlong, HasEnded, HasFound, HasGrown, HasSearched, IsBehind, IsGivenBack, IsKept, IsMore, IsSearching, MayTry, Passes, PutsBehind, by_limit, end_of_search, ending_by, made_behind, status_of, without_more}
+use Rattle.cv_follow.specs.Searches.{ComesTo, CutsBehind, EndedBy, EndsSearch, FindsAlong, HasEnded, HasFound, HasGrown, HasSearched, IsBehind, IsGivenBack, IsKept, IsMore, IsSearching, MayTry, Passes, PutsBehind, by_limit, end_of_search, ending_by, made_behind, status_of, without_more}
 use Rattle.cv_follow.specs.Walks.{HasStopped, IsStopped, course_of}
 use Rattle.cv_follow.proofs.Courses.{lines_put, lines_same, puts_leg, puts_nothing}
 use Rattle.cv_follow.proofs.Gone.{course_is, grows_kept, reached_cut, reached_so_far, tables_many}
 use Rattle.cv_follow.proofs.Left.{first_left, stopped_left}
-use Rattle.cv_follow.proofs.Moves.{moves_counted, moves_few}
 use Rattle.cv_follow.proofs.QueryLists.{queries_same}
 use Rattle.cv_follow.proofs.Tries.{found_again, found_back, found_none, game_stays, may_again, steps_more}
 
@@ -187,7 +188,7 @@ module _ (start now : Work) (first : Tree) (moves : ℕ) (s : Sequence) (Puts : 
       } in
       record {
         reached = record { course = course_of h.gone; is = course_is start now first s h.gone; grows = h.gone.grows; names = h.gone.names; decls = h.gone.decls; puts = puts };
-        stopped = subst (λ qs. HasStopped start.names now qs (course_of h.gone) (FindsAlong (length now.pool.trees) moves ds start.decls.own (course_of h.gone)) w) (sym (queries_same start.pool.trees start.decls.list))
+        outcome = subst (λ qs. HasStopped start.names now qs (course_of h.gone) (FindsAlong (length now.pool.trees) moves ds start.decls.own (course_of h.gone)) w) (sym (queries_same start.pool.trees start.decls.list))
             (stopped_left start now first s h.gone end (FindsAlong (length now.pool.trees) moves ds start.decls.own (course_of h.gone)) w along d);
       }
 

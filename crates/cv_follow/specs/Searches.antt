@@ -30,9 +30,9 @@ use Rattle.cv_syntax.specs.declared.work.BuildError.TheVariants as build
 use Rattle.cv_syntax.specs.declared.work.Work.{Work}
 use Rattle.cv_syntax.specs.Declarations.{declarations}
 use Rattle.cv_syntax.specs.PoolTrees.{tree_at}
-use Rattle.cv_syntax_trees.specs.declared.head.Head.TheVariants.{ArrayRenameStep, CryptoStep, UnletStep}
 use Rattle.cv_syntax_trees.specs.Declarations.{Declaration}
-use Rattle.cv_syntax_trees.specs.Tree.{Tree, Node}
+use Rattle.cv_syntax_trees.specs.Tree.{Tree}
+use Rattle.cv_moves.specs.Moves.{AreMoves, is_move, moves_more}
 use Rattle.cv_follow.specs.declared.searching.Ending.{Ending}
 use Rattle.cv_follow.specs.declared.searching.Ending.TheVariants.{Exhausted, Stopped}
 use Rattle.cv_follow.specs.declared.searching.Tried.{Tried}
@@ -42,28 +42,6 @@ use Rattle.cv_follow.specs.Courses.{Course, IsLegOf, IsReached, PutsNothing, Put
 use Rattle.cv_follow.specs.Scripts.{Stops, first_open}
 use Rattle.cv_kernel.specs.Followed.{known_to}
 use Rattle.cv_follow.specs.Walks.{HasGone, HasStopped, course_of}
-
--- the steps that count as moves: a cryptographic one, one that gives the copies of an array names of their own, and an `unlet` where it is
--- advised and not one that settles a game
-
-abbrev pub is_move : (advised : Bool) → (step : Tree) → Bool
-is_move advised (Node CryptoStep a b) = true
-is_move advised (Node ArrayRenameStep a b) = true
-is_move advised (Node UnletStep a b) = advised
-is_move advised t = false
-
-abbrev pub moves_more : (is_move : Bool) → ℕ → ℕ
-moves_more true n = suc n
-moves_more false n = n
-
-abbrev pub moves_among : (advised : Bool) → List Tree → ℕ
-moves_among advised [] = 0
-moves_among advised (t ∷ ts) = moves_more (is_move advised t) (moves_among advised ts)
-
--- so many of these steps were counted as moves: each that is one in any case, and of the `unlet`s some
-pub record AreMoves (steps : List Tree) (made : ℕ) : Type 0 where
-  pub least : moves_among false steps ≤ made
-  pub most : made ≤ moves_among true steps
 
 -- how a search ends that has nothing more to propose, where so many moves are allowed and so many were made: all queries are closed, or
 -- this one is open
@@ -103,7 +81,7 @@ pub record FindsAlong (taken moves : ℕ) (ds : List Declaration) (own : ℕ) (c
 -- what a search leaves
 pub record HasSearched (start now : Work) (first : Tree) (moves : ℕ) (Puts : Course → Type 0) (w : Walk) : Type 0 where
   pub reached : IsReached true start now first Puts
-  pub stopped : HasStopped start.names now (queries_in (declarations start.pool.trees start.decls.list)) reached.course (FindsAlong (length now.pool.trees) moves (declarations start.pool.trees start.decls.list) start.decls.own reached.course) w
+  pub outcome : HasStopped start.names now (queries_in (declarations start.pool.trees start.decls.list)) reached.course (FindsAlong (length now.pool.trees) moves (declarations start.pool.trees start.decls.list) start.decls.own reached.course) w
 
 -- A step may be tried: the last game of the sequence stands in the work, and nothing was looked up in it, so that the pool may grow.
 pub record MayTry (w : Work) (s : Sequence) : Type 0 where

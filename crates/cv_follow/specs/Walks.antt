@@ -63,18 +63,18 @@ pub record EndsAlong (taken : ℕ) (ds : List Declaration) (own : ℕ) (first : 
 
 -- Memory ran out, and there are no verdicts; or the walk ends so, with the verdicts of its course, and the table has its names.
 pub data HasStopped (names : Table) (now : Work) (queries : List Tree) (c : Course) (Ends : Status → Type 0) (w : Walk) : Type 0 where
-  spent : w.status ≡ status.Memory → w.verdicts.items ≡ [] → HasStopped names now queries c Ends w
-  ended : Ends w.status → w.verdicts.items ≡ verdicts_of c.proof queries → now.names ≡ names_behind names c.tables → HasStopped names now queries c Ends w
+  out_of_memory : w.status ≡ status.Memory → w.verdicts.items ≡ [] → HasStopped names now queries c Ends w
+  with_verdicts : Ends w.status → w.verdicts.items ≡ verdicts_of c.proof queries → now.names ≡ names_behind names c.tables → HasStopped names now queries c Ends w
 
 -- so it is of a walk whose closed queries have these sums
 pub data IsStopped (sums : ℕ → Option (List Term)) (queries : List NodeId) (end : Status) (w : Walk) : Type 0 where
-  spent : w.status ≡ status.Memory → w.verdicts.items ≡ [] → IsStopped sums queries end w
-  ended : w.status ≡ end → w.verdicts.items ≡ verdicts_by sums 1 queries → IsStopped sums queries end w
+  out_of_memory : w.status ≡ status.Memory → w.verdicts.items ≡ [] → IsStopped sums queries end w
+  with_verdicts : w.status ≡ end → w.verdicts.items ≡ verdicts_by sums 1 queries → IsStopped sums queries end w
 
 -- the script was followed as far as this
 pub record IsWalk (before : ℕ) (start now : Work) (first : Tree) (steps queries : List Tree) (Puts : Course → Type 0) (w : Walk) : Type 0 where
   pub reached : IsReached false start now first Puts
-  pub stopped : HasStopped start.names now queries reached.course (EndsAlong before (declarations start.pool.trees start.decls.list) start.decls.own first steps queries reached.course) w
+  pub outcome : HasStopped start.names now queries reached.course (EndsAlong before (declarations start.pool.trees start.decls.list) start.decls.own first steps queries reached.course) w
 
 -- the game that an accepted step leads to: one that closes a query leads to none of its own
 abbrev pub next_of : Option Closing → Game → Option Game

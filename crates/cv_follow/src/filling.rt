@@ -18,13 +18,13 @@ ghost use Rattle.cv_follow.specs.Searches.{HasGrown, MayTry};
 ghost use Rattle.cv_follow.specs.Fillings.{Advances, BreaksOff, IsBlockWalk, IsFilledWalk, SettlesAll, SettlesOne, TakesOne, ended_by, goes_on_behind, has_word, is_word as is_word_tree, settles as settles_tree};
 
 use crate::searching::{Tried, go_on_behind};
-use crate::walk::{Walk, finished, follow, stop_of, stopped};
+use crate::walk::{Walk, follow, stop_of, walk_to_end, walk_with_status};
 use cv_kernel::Sequence;
 use cv_outside::Sink;
 use cv_report::{Status, Stream};
 use cv_script::Step;
 use cv_step_writer::write;
-use cv_strategy::Strategy;
+use cv_strategy::{MOST_NODES, Spared, Strategy};
 use cv_syntax::{Game, Head, Mark, Pool, PoolError, Work, read_node};
 use std::alloc::{AllocError, Global};
 
@@ -304,7 +304,7 @@ fn fill<K: Sink>(
         work.old (tree_at work.old.pool.trees (Some game.root)) stream.old stream.new) result }
 {
     let mut sequence = Sequence::start(alloc, game);
-    let mut strategy = Strategy::new(false);
+    let mut strategy = Strategy::new(alloc, false, Spared::new(alloc), MOST_NODES);
     let mark = work.pool.mark();
     'steps: for step in script {
         let end = advance(
@@ -318,13 +318,13 @@ fn fill<K: Sink>(
             sink,
         );
         let Ok(end) = end else {
-            return Walk::spent(alloc);
+            return Walk::out_of_memory(alloc);
         };
         if let Some(status) = end {
-            return stopped(alloc, &work.decls, &sequence, status);
+            return walk_with_status(alloc, &work.decls, &sequence, status);
         }
     }
-    finished(alloc, &work.decls, &sequence)
+    walk_to_end(alloc, &work.decls, &sequence)
 }
 
 /// Whether a script has the word.

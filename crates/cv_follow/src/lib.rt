@@ -3,9 +3,10 @@
 #![tactic(auto)]
 
 mod filling;
+mod rehearsing;
 mod searching;
 mod walk;
 
 pub use filling::follow_block;
-pub use searching::search;
+pub use rehearsing::search;
 pub use walk::Walk;

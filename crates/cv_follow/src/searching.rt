@@ -1,28 +1,25 @@
 ghost use Rattle.std.specs.Prelude.{◌≡◌, ◌+◌, ◌<◌, ◌≤◌, ◌^◌, ℕ, All, IfOk, OnErr, OnOk, Some, length, true};
 ghost use Rattle.cv_pool.specs.PoolView.{Grows};
 ghost use Rattle.cv_syntax.specs.Classes.{queries};
-ghost use Rattle.cv_syntax.specs.Declarations.{declarations};
-ghost use Rattle.cv_syntax_trees.specs.Tree.{size};
 ghost use Rattle.cv_syntax.specs.PoolTrees.{tree_at};
 ghost use Rattle.cv_syntax.specs.limits.Limits.{nodes_of};
 ghost use Rattle.cv_parse.specs.Declaring.{IsBelow};
-ghost use Rattle.cv_scope_rules.specs.Phrases.{IsWellFormed};
 ghost use Rattle.cv_accept.specs.Accepted.{most_pool};
 ghost use Rattle.cv_bound.specs.closings.Queries.{first_unclosed, numbers_of, sum_in};
-ghost use Rattle.cv_kernel_crypto.specs.Applied.{HasEquivalences};
-ghost use Rattle.cv_scene_view.specs.Kept.{scene_of};
 ghost use Rattle.cv_step_writer.specs.Proposals.{IsProposalBelow, step_tree};
 ghost use Rattle.cv_script.specs.Views.{items_of_step};
 ghost use Rattle.cv_kernel.specs.Keeping.{StaysUpTo};
 ghost use Rattle.cv_kernel.specs.Sequences.{game_in};
 ghost use Rattle.cv_script.specs.declared.steps.Step.{Step};
+ghost use Rattle.cv_rehearsals.specs.Works.{MayBegin};
 ghost use Rattle.cv_follow.specs.Courses.{IsReached, PutsCourse};
 ghost use Rattle.cv_follow.specs.Walks.{IsStopped};
-ghost use Rattle.cv_follow.specs.Searches.{ComesFrom, ComesTo, CutsBehind, HasEnded, HasGrown, HasSearched, IsBehind, IsFailed, IsGivenBack, IsReady, IsReleased, IsSearching, MayTry, PutsBehind, end_of_search, ending_by, is_move as is_move_tree, is_taken, made_behind, status_of, tried_of};
+ghost use Rattle.cv_follow.specs.Searches.{ComesFrom, ComesTo, CutsBehind, HasEnded, HasGrown, HasSearched, IsBehind, IsFailed, IsGivenBack, IsReady, IsReleased, IsSearching, MayTry, PutsBehind, end_of_search, ending_by, is_taken, made_behind, status_of, tried_of};
 
 use crate::walk::{Walk, go_on};
 use cv_bound::closings::ClosedQueries;
 use cv_kernel::{PushError, Sequence};
+use cv_moves::is_move;
 use cv_outside::Sink;
 use cv_report::verdicts::verdicts_of;
 use cv_report::{Cause, Status, Stream, Which};
@@ -30,7 +27,7 @@ use cv_rule_array_names::with_drawn;
 use cv_script::Step;
 use cv_step_writer::{Proposal, write};
 use cv_strategy::Strategy;
-use cv_syntax::{BuildError, Decls, Game, Head, Mark, Pool, PoolError, Work, read_node};
+use cv_syntax::{BuildError, Decls, Game, Mark, Pool, PoolError, Work};
 use std::alloc::{AllocError, Global};
 
 /// What comes of a try.
@@ -53,19 +50,6 @@ pub enum Ending {
     Exhausted(u32),
     /// A limit was passed.
     Stopped(Which),
-}
-
-/// Whether a step counts as a move, an `unlet` where it is advised.
-#[tactic(auto, using(cv_syntax::proofs::Trees::opened))]
-fn is_move(pool: &Pool, step: Step, advised: bool) -> bool
-    requires { step.0.0 < length pool.now.trees }
-    ensures { result ≡ is_move_tree advised (tree_at pool.now.trees (Some step.0)) }
-{
-    match read_node(pool, step.0).head {
-        Head::CryptoStep | Head::ArrayRenameStep => true,
-        Head::UnletStep => advised,
-        _ => false,
-    }
 }
 
 /// What comes of a step that isn't accepted. Want of memory is none of these.
@@ -106,7 +90,7 @@ fn take(
         (ComesFrom n work.old work.new may_move sequence.old sequence.new) }
     ensures grown { HasGrown work.old work.new }
 {
-    let moved = is_move(&work.pool, step, advised);
+    let moved = is_move(&work.pool, step.0, advised);
     if moved && !may_move {
         return Ok(Tried::Refused);
     }
@@ -329,14 +313,14 @@ pub(crate) fn go_on_behind<K: Sink>(
     }
 }
 
-/// Tries what the strategy proposes, with or without further moves, as long as it proposes something and no limit is passed, in at
-/// most so many moves; the lines of each step that is accepted are put.
+/// Tries what the strategy proposes, as long as it proposes something and no limit is passed, in at most so many moves; the lines of
+/// each step that is accepted are put.
 fn try_all<K: Sink>(
     alloc: Global,
     work: &mut Work,
     sequence: &mut Sequence,
+    strategy: &mut Strategy,
     moves: u32,
-    goes_further: bool,
     stream: &mut Stream,
     sink: &mut K,
 ) -> Result<Ending, AllocError>
@@ -356,10 +340,9 @@ fn try_all<K: Sink>(
         work.old (game_in work.old.pool.trees sequence.old) stream.old stream.new)) }
 {
     let mark = work.pool.mark();
-    let mut strategy = Strategy::new(goes_further);
     let mut made: u32 = 0;
     'tries: for _ in 0..u64::MAX {
-        let tried = attempt(alloc, work, sequence, &mut strategy, made < moves)?;
+        let tried = attempt(alloc, work, sequence, strategy, made < moves)?;
         match ending_of(tried, made) {
             Some(ending) => return Ok(ending),
             None => made = moves_behind(tried, made),
@@ -391,45 +374,31 @@ fn finish(alloc: Global, decls: &Decls, closed: &ClosedQueries, ending: Ending, 
             let status = end_of_ending(closed, count, ending, moves);
             Walk { verdicts, status }
         }
-        Err(_) => Walk::spent(alloc),
+        Err(_) => Walk::out_of_memory(alloc),
     }
 }
 
-/// Searches for steps from a game on, in at most so many moves, with or without further ones, and puts the lines of each that is
-/// accepted. The names that steps draw stand behind the others.
-pub fn search<K: Sink>(
+/// Searches for steps from a game on by a strategy, in at most so many moves, and puts the lines of each that is accepted. The names
+/// that steps draw stand behind the others.
+pub(crate) fn search_by<K: Sink>(
     alloc: Global,
     work: &mut Work,
     game: Game,
+    strategy: &mut Strategy,
     moves: u32,
-    goes_further: bool,
     stream: &mut Stream,
     sink: &mut K,
 ) -> Walk
-    requires game { game.root.0 < length work.old.pool.trees }
-    requires small { size (tree_at work.old.pool.trees (Some game.root)) ≤ 50000 }
-    requires formed { IsWellFormed (declarations work.old.pool.trees work.old.decls.list)
-        (tree_at work.old.pool.trees (Some game.root)) }
-    requires below { All (IsBelow (length work.old.pool.trees)) work.old.decls.list }
-    requires equivalences { HasEquivalences (scene_of work.old.pool work.old.decls game.root) }
-    requires limit { work.old.pool.limit ≡ most_pool }
+    requires begin { MayBegin work.old game }
     requires steps { stream.old.steps ≡ 0 }
     ensures { HasSearched work.old work.new (tree_at work.old.pool.trees (Some game.root)) moves
         (PutsCourse (K.taken sink.old) (K.taken sink.new) (K.faults sink.old) (K.faults sink.new)
         work.old (tree_at work.old.pool.trees (Some game.root)) stream.old stream.new) result }
 {
     let mut sequence = Sequence::start(alloc, game);
-    let ended = try_all(
-        alloc,
-        work,
-        &mut sequence,
-        moves,
-        goes_further,
-        stream,
-        sink,
-    );
+    let ended = try_all(alloc, work, &mut sequence, strategy, moves, stream, sink);
     match ended {
         Ok(ending) => finish(alloc, &work.decls, sequence.closed(), ending, moves),
-        Err(_) => Walk::spent(alloc),
+        Err(_) => Walk::out_of_memory(alloc),
     }
 }

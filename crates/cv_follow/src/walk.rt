@@ -44,7 +44,7 @@ impl Walk {
     ghost use Rattle.std.specs.Prelude.{[]};
 
     /// Memory ran out.
-    pub(crate) fn spent(alloc: Global) -> Walk
+    pub(crate) fn out_of_memory(alloc: Global) -> Walk
         ensures status { result.status ≡ Status.Memory }
         ensures verdicts { result.verdicts.items ≡ [] }
     {
@@ -181,17 +181,22 @@ pub(crate) fn go_on<K: Sink>(
 }
 
 /// What is left of a run that ends so.
-pub(crate) fn stopped(alloc: Global, decls: &Decls, sequence: &Sequence, status: Status) -> Walk
+pub(crate) fn walk_with_status(
+    alloc: Global,
+    decls: &Decls,
+    sequence: &Sequence,
+    status: Status,
+) -> Walk
     ensures { IsStopped (sum_in sequence.now.closed) (queries decls.now.list) status result }
 {
     match verdicts_of(alloc, decls, sequence.closed()) {
         Ok(verdicts) => Walk { verdicts, status },
-        Err(_) => Walk::spent(alloc),
+        Err(_) => Walk::out_of_memory(alloc),
     }
 }
 
 /// What is left of a run whose script was followed to its end.
-pub(crate) fn finished(alloc: Global, decls: &Decls, sequence: &Sequence) -> Walk
+pub(crate) fn walk_to_end(alloc: Global, decls: &Decls, sequence: &Sequence) -> Walk
     ensures { IsStopped (sum_in sequence.now.closed) (queries decls.now.list)
         (ended_with (first_unclosed (numbers_of sequence.now.closed)
         (length (queries decls.now.list)))) result }
@@ -201,7 +206,7 @@ pub(crate) fn finished(alloc: Global, decls: &Decls, sequence: &Sequence) -> Wal
             let status = end_of(sequence.closed(), verdicts.as_slice().len() as u32);
             Walk { verdicts, status }
         }
-        Err(_) => Walk::spent(alloc),
+        Err(_) => Walk::out_of_memory(alloc),
     }
 }
 
@@ -236,15 +241,15 @@ pub(crate) fn follow<K: Sink>(
         match sequence.push(alloc, work, *step) {
             Ok(()) => match go_on(alloc, work, &mut sequence, *step, mark, stream, sink) {
                 Ok(()) => {}
-                Err(_) => return Walk::spent(alloc),
+                Err(_) => return Walk::out_of_memory(alloc),
             },
             Err(fault) => {
                 return match stop_of(fault, sequence.steps()) {
-                    Some(status) => stopped(alloc, &work.decls, &sequence, status),
-                    None => Walk::spent(alloc),
+                    Some(status) => walk_with_status(alloc, &work.decls, &sequence, status),
+                    None => Walk::out_of_memory(alloc),
                 };
             }
         }
     }
-    finished(alloc, &work.decls, &sequence)
+    walk_to_end(alloc, &work.decls, &sequence)
 }

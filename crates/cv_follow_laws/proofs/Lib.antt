@@ -6,3 +6,4 @@ pub mod Alike
 pub mod Printed
 pub mod Outcomes
 pub mod Settled
+pub mod GivenBack

@@ -27,7 +27,7 @@ use Rattle.cv_follow.specs.Scripts.{EndsScript, Stops, is_without_block, no_room
 use Rattle.cv_kernel.specs.Followed.{known_to}
 use Rattle.cv_follow.specs.Courses.{Course, names_behind}
 use Rattle.cv_follow.specs.Fillings.{has_word}
-use Rattle.cv_follow_laws.specs.Reports.{AreFound, AreFront, FollowsScript, IsPlain, IsReportOf, IsSettled, Proceeds, block_of, file_in, text_of}
+use Rattle.cv_follow_laws.specs.Reports.{AreFound, AreFront, FollowsScript, IsPlain, IsReportOf, IsSettled, Proceeds, block_of, file_in, query_in, text_of}
 use Rattle.cv_follow_laws.proofs.Fronts.{proof_at}
 use Rattle.cv_follow_laws.proofs.Outcomes.{IsFixedSaying, one_saying}
 use Rattle.cv_follow_laws.proofs.Scripted.{front_is, same_is}
@@ -158,10 +158,10 @@ plain_found (Some script) n f = (let e = sym n ∙ f in cc)
 none_asked : (r : Report) (j k : Course) → IsPlain (block_of r) → AreFront r j k
 none_asked r j k n = λ f. absurd (plain_found (block_of r) n f)
 
-pub one_text : (source : Given) (r q : Report) (f g : File) (w : IsReportOf source r f) (v : IsReportOf source q g) → IsPlain (block_of r) → IsSettled r.status → IsSettled q.status → text_of r f w.names w.course ≡ text_of q g v.names v.course
-one_text source r q f g w v s h l =
+pub one_text : (source : Given) (r q : Report) (f g : File) (w : IsReportOf source r f) (v : IsReportOf source q g) → query_in r.command ≡ query_in q.command → IsPlain (block_of r) → IsSettled r.status → IsSettled q.status → text_of r f w.names w.course ≡ text_of q g v.names v.course
+one_text source r q f g w v asked s h l =
     let c : Content = file_in r f w.names in
     let goes = proceeds source r q f g w v in
     let it = its source r q f g w v in
-    ap₂ ◌++◌ (body_is source r q f g w v (none_asked r w.course v.course s) (lengths_by c (apart source r q f g w v) r q w.course v.course c.script s w.follows goes w.is it h l))
+    ap₂ ◌++◌ (body_is source r q f g w v (none_asked r w.course v.course s) asked (lengths_by c (apart source r q f g w v) r q w.course v.course c.script s w.follows goes w.is it h l))
     (ap end_text (ends_by c (apart source r q f g w v) r q w.course v.course c.script s w.follows goes w.is it h l))

@@ -10,12 +10,14 @@ use Rattle.cv_accept.specs.Accepted.{Content, IsFile, most_pool}
 use Rattle.cv_accept.specs.Works.{content_in, script_in}
 use Rattle.cv_costs.specs.Factors.{parameters_in}
 use Rattle.cv_report.specs.declared.report.Cause.TheVariants.{StepRefused}
+use Rattle.cv_report.specs.declared.report.Command.{Command}
+use Rattle.cv_report.specs.declared.report.Command.TheVariants.{Prove}
 use Rattle.cv_report.specs.declared.report.Report.{Report}
 use Rattle.cv_report.specs.declared.report.Status.{Status}
 use Rattle.cv_report.specs.declared.report.Status.TheVariants as status
 use Rattle.cv_report.specs.declared.report.Which.TheVariants.{Depth, Nodes}
 use Rattle.cv_report.specs.Lines.{lines_text}
-use Rattle.cv_report.specs.Text.{end_text, verdicts_text}
+use Rattle.cv_report.specs.Text.{end_text, verdicts_asked}
 use Rattle.cv_follow.specs.Courses.{Course, IsCourse, lines_of, names_behind}
 use Rattle.cv_follow.specs.Scripts.{is_without_block, verdicts_of}
 use Rattle.cv_follow.specs.Fillings.{StandsFor, has_word}
@@ -49,11 +51,16 @@ pub record IsReportOf (source : Given) (r : Report) (f : File) : Type 0 where
   pub verdicts : r.verdicts.items ≡ verdicts_of course.proof (queries_in (file_in r f names).declarations)
   pub follows : Proceeds r (file_in r f names) course (file_in r f names).script
 
+-- the query that a command asks for alone
+abbrev pub query_in : Command → Option ℕ
+query_in (Prove moves more query) = query
+query_in c = None
+
 -- the text of a report along a course, but for the last line
 abbrev pub body_text : Report → File → (names : ℕ) → Course → List ℕ
 body_text r f n k =
     lines_text (lines_of (take n r.work.names) (parameters_in r.work.decls.list) (tree_at r.work.pool.trees (Some f.game.root)) k)
-    ++ verdicts_text r.work.names 1 r.verdicts.items
+    ++ verdicts_asked r.work.names (query_in r.command) r.verdicts.items
 
 -- its whole text
 abbrev pub text_of : Report → File → (names : ℕ) → Course → List ℕ

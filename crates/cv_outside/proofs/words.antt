@@ -1,6 +1,9 @@
-pub mod Found
+pub mod Alike
+pub mod Arranged
+pub mod Asks
 pub mod Lines
 pub mod Numbers
-pub mod Orders
+pub mod Parts
 pub mod Plain
 pub mod Rows
+pub mod Walks

@@ -13,7 +13,7 @@ use Rattle.cv_report.specs.declared.report.Verdict.{Verdict}
 use Rattle.cv_report.specs.declared.report.Verdict.TheVariants.{NotProved, Proved}
 use Rattle.cv_report.specs.Lines.{Lines, shown_text}
 use Rattle.cv_report.specs.Streams.{is_streamed}
-use Rattle.cv_report.specs.Text.{end_text, verdicts_text}
+use Rattle.cv_report.specs.Text.{end_text, verdicts_asked}
 
 -- how many queries are proved, and how many terms their sums have together; a count stops at the greatest u64
 
@@ -43,17 +43,17 @@ abbrev pub sample_text : (number : ℕ) → Status → List ℕ
 sample_text n status.Done = file_of n
 sample_text n s = end_text s
 
--- the verdicts on the queries of a file, and the end line
-abbrev pub verdicts_and_end : Report → List ℕ
-verdicts_and_end r = verdicts_text r.work.names 1 r.verdicts.items ++ end_text r.status
+-- the verdicts on the queries of a file, or on the one that was asked alone, and the end line
+abbrev pub verdicts_and_end : (query : Option ℕ) → Report → List ℕ
+verdicts_and_end query r = verdicts_asked r.work.names query r.verdicts.items ++ end_text r.status
 
 -- what is printed behind the lines of games and steps; `games` prints no verdicts
 abbrev pub rest_by : Command → Report → List ℕ
-rest_by (Prove moves more) r = verdicts_and_end r
+rest_by (Prove moves more query) r = verdicts_and_end query r
 rest_by Games r = end_text r.status
 rest_by (Sample n true) r = summary_text n r r.file
 rest_by (Sample n false) r = sample_text n r.status
-rest_by Nothing r = verdicts_and_end r
+rest_by Nothing r = verdicts_and_end None r
 
 abbrev pub rest_text : Report → List ℕ
 rest_text r = rest_by r.command r

@@ -15,7 +15,7 @@ use Rattle.cv_syntax.specs.declared.work.Work.{Work}
 
 -- The lines of a run under a command are put while it goes on. Of the proof of a sample there are only counts.
 abbrev pub is_streamed : Command → Bool
-is_streamed (Prove moves more) = true
+is_streamed (Prove moves more query) = true
 is_streamed Games = true
 is_streamed (Sample n prove) = false
 is_streamed Nothing = false

@@ -1,6 +1,7 @@
 -- The text of a report.
-use Rattle.std.specs.Prelude.{ℕ, ◌+◌, ◌<◌, List, [], ◌∷◌, ◌++◌, codes, length, Some, option_map, IfSome}
+use Rattle.std.specs.Prelude.{ℕ, ◌+◌, ◌<◌, List, [], ◌∷◌, ◌++◌, codes, length, Option, Some, None, option_map, IfSome}
 use Rattle.std.specs.Fmt.{decimal}
+use Rattle.std.specs.List.{flat_map}
 use Rattle.cv_syntax.specs.declared.work.Work.{Work}
 use Rattle.cv_syntax.specs.PoolTrees.{tree_at}
 use Rattle.cv_bound.specs.Texts.{sum_text}
@@ -42,6 +43,15 @@ verdict_text names k v = codes "query " ++ decimal k ++ said_text names v
 unfoldable pub verdicts_text : List (List ℕ) → ℕ → List Verdict → List ℕ
 verdicts_text names k [] = []
 verdicts_text names k (v ∷ vs) = verdict_text names k v ++ verdicts_text names (k + 1) vs
+
+-- the line on the k-th query, which was asked alone
+abbrev pub alone_text : List (List ℕ) → ℕ → Verdict → List ℕ
+alone_text names k v = codes "query " ++ decimal k ++ codes " alone" ++ said_text names v
+
+-- the lines on all queries in their order, or on the one that was asked alone
+abbrev pub verdicts_asked : List (List ℕ) → (query : Option ℕ) → List Verdict → List ℕ
+verdicts_asked names None vs = verdicts_text names 1 vs
+verdicts_asked names (Some k) vs = flat_map (alone_text names k) vs
 
 -- the end line of a file that is refused: what is wrong, and at which byte, token or node, or in which equivalence or query
 abbrev pub refused_text : List ℕ → ℕ → List ℕ

@@ -19,7 +19,11 @@ pub fn is_streamed(command: Command) -> bool
     ensures { result ≡ streamed command }
 {
     match command {
-        Command::Prove { moves: _, more: _ } => true,
+        Command::Prove {
+            moves: _,
+            more: _,
+            query: _,
+        } => true,
         Command::Games => true,
         Command::Sample {
             number: _,

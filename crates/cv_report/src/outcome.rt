@@ -5,5 +5,5 @@ mod outcome;
 mod without_file;
 
 pub use fetched::fetch_status;
-pub use outcome::{Outcome, spent, write};
+pub use outcome::{Outcome, out_of_memory, write};
 pub use without_file::refused;

@@ -57,12 +57,12 @@ fn end_text(alloc: Global, status: Status) -> Result<Vec<u8>, AllocError>
     Ok(out)
 }
 
-/// The verdicts with the end line.
-fn verdicts_text(alloc: Global, report: &Report) -> Result<Vec<u8>, AllocError>
-    ensures { IfOk result (λ v. v.items ≡ verdicts_and_end report.now) }
+/// The verdicts with the end line: on all queries, or on the one that was asked alone.
+fn verdicts_text(alloc: Global, query: Option<u32>, report: &Report) -> Result<Vec<u8>, AllocError>
+    ensures { IfOk result (λ v. v.items ≡ verdicts_and_end query report.now) }
 {
     let mut out = Vec::new(alloc);
-    push_verdicts_and_end(&mut out, report)?;
+    push_verdicts_and_end(&mut out, query, report)?;
     Ok(out)
 }
 
@@ -102,7 +102,11 @@ pub fn rest_text(alloc: Global, report: &Report) -> Result<Vec<u8>, AllocError>
     ensures { IfOk result (λ v. v.items ≡ rest_of report.now) }
 {
     match report.command {
-        Command::Prove { moves: _, more: _ } => verdicts_text(alloc, report),
+        Command::Prove {
+            moves: _,
+            more: _,
+            query,
+        } => verdicts_text(alloc, query, report),
         Command::Games => end_text(alloc, report.status),
         Command::Sample {
             number,
@@ -112,6 +116,6 @@ pub fn rest_text(alloc: Global, report: &Report) -> Result<Vec<u8>, AllocError>
             number,
             prove: false,
         } => sample_text(alloc, number, report.status),
-        Command::Nothing => verdicts_text(alloc, report),
+        Command::Nothing => verdicts_text(alloc, None, report),
     }
 }

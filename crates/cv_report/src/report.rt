@@ -15,12 +15,19 @@ use cv_syntax::{File, Game, Work};
 /// What the words ask for.
 #[derive(Clone, Copy, Debug, PartialEq, Eq)]
 pub enum Command {
-    /// A proof of the file's queries, in at most so many moves, with or without further ones.
-    Prove { moves: u32, more: bool },
+    /// A proof of the file's queries, or of the one with this number alone, in at most so many moves, with or without further ones.
+    Prove {
+        moves: u32,
+        more: bool,
+        query: Option<u32>,
+    },
     /// The games of the file's proof block, without verdicts.
     Games,
     /// The text of the sample with this number, or a proof of its queries.
-    Sample { number: u32, prove: bool },
+    Sample {
+        number: u32,
+        prove: bool,
+    },
     /// The words ask for nothing.
     Nothing,
 }

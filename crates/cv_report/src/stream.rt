@@ -51,7 +51,7 @@ impl Stream {
     }
 
     /// Nothing is put, and the steps are kept, with the games that they lead to.
-    pub fn kept(alloc: Global) -> Stream
+    pub fn keeping_steps(alloc: Global) -> Stream
         ensures shows { result.shows ≡ false }
         ensures flow { result.flow ≡ Going }
         ensures steps { result.steps ≡ 0 }

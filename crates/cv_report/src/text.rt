@@ -5,7 +5,7 @@ ghost use Rattle.cv_syntax.specs.declared.work.Work.{Work};
 ghost use Rattle.cv_print.specs.Games.{game_text};
 ghost use Rattle.cv_report.specs.Lines.{cost_text, game_after, leg_text, next_text};
 ghost use Rattle.cv_report.specs.Printed.{verdicts_and_end};
-ghost use Rattle.cv_report.specs.Text.{EntryLive, condition_text, end_text, expansion_text, fault_text, grammar_text, group_text, leg_in, lexis_text, library_lexis_text, library_text, no_close_text, numbered_text, open_text, place_text, query_text, refused_text, said_text, scope_text, script_text, step_refused_text, types_text, verdict_text, verdicts_text};
+ghost use Rattle.cv_report.specs.Text.{EntryLive, alone_text, condition_text, end_text, expansion_text, fault_text, grammar_text, group_text, leg_in, lexis_text, library_lexis_text, library_text, no_close_text, numbered_text, open_text, place_text, query_text, refused_text, said_text, scope_text, script_text, step_refused_text, types_text, verdict_text, verdicts_asked, verdicts_text};
 
 use crate::contexts::push_context;
 use crate::report::{Cause, Entry, FileFault, Report, Status, Verdict, Which};
@@ -162,6 +162,54 @@ fn push_verdicts(out: &mut Vec<u8>, names: &Names, verdicts: &[Verdict]) -> Resu
         push_verdict(out, names, k as u64 + 1, &verdicts[k])?;
     }
     Ok(())
+}
+
+/// Appends what is said of a query that was asked alone, with its number.
+fn push_alone(
+    out: &mut Vec<u8>,
+    names: &Names,
+    number: u32,
+    verdict: &Verdict,
+) -> Result<(), AllocError>
+    ensures { OnOk result (out.new.items
+        ≡ out.old.items ++ alone_text names.now number verdict.now) }
+{
+    out.extend_from_slice(b"query ")?;
+    push_decimal(out, number as u64)?;
+    out.extend_from_slice(b" alone")?;
+    push_said(out, names, verdict)
+}
+
+/// Appends each verdict as one on the query that was asked alone.
+fn push_each_alone(
+    out: &mut Vec<u8>,
+    names: &Names,
+    number: u32,
+    verdicts: &[Verdict],
+) -> Result<(), AllocError>
+    ensures { OnOk result (out.new.items
+        ≡ out.old.items ++ verdicts_asked names.now (Some number) verdicts.now) }
+{
+    'verdicts: for k in 0..verdicts.len() {
+        push_alone(out, names, number, &verdicts[k])?;
+    }
+    Ok(())
+}
+
+/// Appends verdicts on all queries, or on the one that was asked alone.
+fn push_asked(
+    out: &mut Vec<u8>,
+    names: &Names,
+    query: Option<u32>,
+    verdicts: &[Verdict],
+) -> Result<(), AllocError>
+    ensures { OnOk result (out.new.items
+        ≡ out.old.items ++ verdicts_asked names.now query verdicts.now) }
+{
+    match query {
+        Some(number) => push_each_alone(out, names, number, verdicts),
+        None => push_verdicts(out, names, verdicts),
+    }
 }
 
 /// Appends the end line of a file that is refused: what is wrong, and where.
@@ -397,10 +445,14 @@ pub(crate) fn push_end(out: &mut Vec<u8>, status: Status) -> Result<(), AllocErr
     }
 }
 
-/// Appends verdicts and the end line.
-pub(crate) fn push_verdicts_and_end(out: &mut Vec<u8>, report: &Report) -> Result<(), AllocError>
-    ensures { OnOk result (out.new.items ≡ out.old.items ++ verdicts_and_end report.now) }
+/// Appends verdicts, on all queries or on the one that was asked alone, and the end line.
+pub(crate) fn push_verdicts_and_end(
+    out: &mut Vec<u8>,
+    query: Option<u32>,
+    report: &Report,
+) -> Result<(), AllocError>
+    ensures { OnOk result (out.new.items ≡ out.old.items ++ verdicts_and_end query report.now) }
 {
-    push_verdicts(out, &report.work.names, &report.verdicts)?;
+    push_asked(out, &report.work.names, query, &report.verdicts)?;
     push_end(out, report.status)
 }

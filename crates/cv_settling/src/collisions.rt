@@ -8,6 +8,15 @@ use cv_syntax::{Class, Decls, NameId};
 use std::alloc::{AllocError, Global};
 use std::collections::{HashMap, HashSet};
 
+/// A step that takes equalities of a variable to hold by chance alone, by that variable.
+#[derive(Clone, Copy, Debug, PartialEq, Eq)]
+pub enum Chance {
+    /// The step `birthday`: two cells of the variable are equal.
+    Birthday(NameId),
+    /// The step `guess`: the variable is equal to what doesn't rest on it.
+    Guess(NameId),
+}
+
 /// How many equalities have a side that reads a variable, and how many have two.
 #[derive(Clone, Copy)]
 struct Count {
@@ -101,15 +110,22 @@ fn places_of(
     Ok(places)
 }
 
+/// Whether a step is among those that aren't suggested.
+fn is_among(spared: &[Chance], step: Chance) -> bool {
+    spared.iter().any(|one| *one == step)
+}
+
 /// A variable whose cells are compared: the first one, where so many are passed over.
 fn birthday_variable(
     decls: &Decls,
     overview: &Overview,
     counts: &Counts,
+    spared: &[Chance],
     left: &mut u32,
 ) -> Option<u32> {
     for x in overview.variables.order() {
-        if counts.get(*x).both > 0 && is_chosen(decls, overview.variables.get(*x)) {
+        let is_candidate = counts.get(*x).both > 0 && is_chosen(decls, overview.variables.get(*x));
+        if is_candidate && !is_among(spared, Chance::Birthday(NameId(*x))) {
             if *left == 0 {
                 return Some(*x);
             }
@@ -125,13 +141,15 @@ fn guess_variable(
     overview: &Overview,
     counts: &Counts,
     queried: &HashSet<u32>,
+    spared: &[Chance],
     left: &mut u32,
 ) -> Option<u32> {
     for x in overview.variables.order() {
         let compared = counts.get(*x).either;
         let variable = overview.variables.get(*x);
-        let is_candidate = compared > 0 && compared == variable.reads;
-        if is_candidate && is_chosen(decls, variable) && !queried.contains(x) {
+        let is_alone = compared > 0 && compared == variable.reads && !queried.contains(x);
+        let is_candidate = is_alone && is_chosen(decls, variable);
+        if is_candidate && !is_among(spared, Chance::Guess(NameId(*x))) {
             if *left == 0 {
                 return Some(*x);
             }
@@ -164,20 +182,21 @@ fn fresh_place(decls: &Decls, overview: &Overview, left: &mut u32) -> Option<u32
     None
 }
 
-/// The step that takes an equality to hold by chance alone: the first one, where so many are passed over.
+/// The step that takes an equality to hold by chance alone, but for some: the first one, where so many are passed over.
 pub(crate) fn find(
     alloc: Global,
     decls: &Decls,
     overview: &Overview,
     queried: &HashSet<u32>,
+    spared: &[Chance],
     left: &mut u32,
 ) -> Result<Option<Proposal>, AllocError> {
     let counts = Counts::of(alloc, &overview.comparisons)?;
-    if let Some(x) = birthday_variable(decls, overview, &counts, left) {
+    if let Some(x) = birthday_variable(decls, overview, &counts, spared, left) {
         let at = places_of(alloc, overview, x, true)?;
         return Ok(Some(Proposal::Birthday { x: NameId(x), at }));
     }
-    if let Some(x) = guess_variable(decls, overview, &counts, queried, left) {
+    if let Some(x) = guess_variable(decls, overview, &counts, queried, spared, left) {
         let at = places_of(alloc, overview, x, false)?;
         return Ok(Some(Proposal::Guess { x: NameId(x), at }));
     }

@@ -20,6 +20,7 @@ mod unlet;
 mod unnew;
 
 pub use checking::is_proposal_below;
+pub use collisions::Chance;
 pub use stop::Stop;
 pub use suggesting::suggest;
 pub use terms::{Given, made, put};

@@ -4,6 +4,7 @@ ghost use Rattle.cv_pool.specs.PoolView.{Grows};
 ghost use Rattle.cv_step_writer.specs.Proposals.{IsProposalBelow};
 
 use crate::checking::is_proposal_below;
+use crate::collisions::Chance;
 use crate::equations::Equations;
 use crate::stop::Stop;
 use crate::{collisions, merge, prune, rewrite, unlet, unnew};
@@ -80,6 +81,7 @@ fn settling_step(
     pool: &mut Pool,
     decls: &Decls,
     game: NodeId,
+    spared: &[Chance],
     number: u32,
 ) -> Result<Option<Proposal>, Stop>
     ensures { Grows pool.old pool.new }
@@ -96,25 +98,26 @@ fn settling_step(
         return Ok(Some(step));
     }
     let queried = queried_variables(alloc, pool, decls)?;
-    Ok(collisions::find(alloc, decls, &overview, &queried, &mut left)?)
+    Ok(collisions::find(alloc, decls, &overview, &queried, spared, &mut left)?)
 }
 
 /// The settling step with a number, from 0, that a game suggests, in the order of the strategy: bodies that are not reached, tests
 /// with equal bodies, variables that nothing names, `let`s whose term may stand for their variable, terms that an equation makes
-/// smaller, equalities that hold by chance alone. Each lowers the measure. There is none where fewer are suggested; whether one is
-/// accepted the kernel says.
+/// smaller, equalities that hold by chance alone but for the steps that are spared. Each lowers the measure. There is none where fewer
+/// are suggested; whether one is accepted the kernel says.
 #[tactic(auto, using(crate::proofs::Growing::growing))]
 pub fn suggest(
     alloc: Global,
     pool: &mut Pool,
     decls: &Decls,
     game: NodeId,
+    spared: &[Chance],
     number: u32,
 ) -> Result<Option<Proposal>, PoolError>
     ensures live { IfOk result (λ p. IfSome p (IsProposalBelow (length pool.new.trees))) }
     ensures grows { Grows pool.old pool.new }
 {
-    match settling_step(alloc, pool, decls, game, number) {
+    match settling_step(alloc, pool, decls, game, spared, number) {
         Ok(Some(step)) => {
             if is_proposal_below(pool.live(), &step) {
                 Ok(Some(step))

@@ -2,6 +2,8 @@
 #![tactic(auto)]
 
 pub mod moves;
+mod sparing;
 mod strategy;
 
-pub use strategy::Strategy;
+pub use sparing::{CostlyStep, Spared};
+pub use strategy::{MOST_NODES, Strategy};

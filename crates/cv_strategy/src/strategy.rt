@@ -5,6 +5,7 @@ ghost use Rattle.cv_strategy.specs.declared.strategy.Phase.TheVariants.{Settling
 ghost use Rattle.cv_strategy.specs.Phases.{phase_behind};
 
 use crate::moves::suggest as suggest_move;
+use crate::sparing::{CostlyStep, Payments, Spared};
 use cv_bound::closings::ClosedQueries;
 use cv_direct::Proposer;
 use cv_further::{suggest_carrying, suggest_renaming};
@@ -31,18 +32,24 @@ enum Phase {
     Renaming,
 }
 
-/// How many nodes the games have together, in which steps that settle and moves are proposed, each counted as often as one is.
-const MOST_NODES: u32 = 5_000_000;
+/// How many nodes the games of a search have together at most, in which steps that settle and moves are proposed, each counted as often
+/// as one is.
+pub const MOST_NODES: u32 = 5_000_000;
 
 /// How far the strategy has come: a game is settled first, then queries are closed, and then a move is made, behind which it
 /// begins again; where there is none a further move, if these are asked for. Bodies are dropped, and values carried, as long as that
-/// goes on. Proposals of a phase are numbered; the query of a number is counted from 1. What closes queries, or drops bodies, is made
-/// for the first one that is asked for, and kept for its game.
+/// goes on. Proposals of a phase are numbered, but for the steps that are spared; the query of a number is counted from 1. What closes
+/// queries, or drops bodies, is made for the first one that is asked for, and kept for its game. With further moves the costly steps are
+/// noted that were accepted.
 #[derive(Drop)]
 pub struct Strategy {
     phase: Phase,
     number: u32,
     proposer: Option<Proposer>,
+    spared: Spared,
+    /// The queries for which moves are made, where these aren't all.
+    goal: Option<Vec<u64>>,
+    payments: Payments,
     left: u32,
     goes_further: bool,
     is_going_on: bool,
@@ -64,17 +71,49 @@ fn is_some_open(decls: &Decls, closed: &ClosedQueries) -> bool {
 }
 
 impl Strategy {
-    /// The strategy at a first game, and whether it makes further moves.
-    pub fn new(goes_further: bool) -> Strategy
+    /// The strategy at a first game: whether it makes further moves, which steps it doesn't propose, and how many nodes the games that
+    /// it looks at may have together.
+    pub fn new(alloc: Global, goes_further: bool, spared: Spared, effort: u32) -> Strategy
         ensures { result.phase ≡ Settling }
     {
         Strategy {
             phase: Phase::Settling,
             number: 0,
             proposer: None,
-            left: MOST_NODES,
+            spared,
+            goal: None,
+            payments: Payments::new(alloc),
+            left: effort,
             goes_further,
             is_going_on: false,
+        }
+    }
+
+    /// Makes moves for the queries of these numbers alone.
+    pub fn ask_only(&mut self, queries: Vec<u64>) {
+        self.goal = Some(queries);
+    }
+
+    /// How many nodes the games at which it still looks may have together: none once a game had more.
+    pub fn effort(&self) -> u32 {
+        self.left
+    }
+
+    /// The steps that it doesn't propose, and the costly steps of the sums of the queries that were closed, in their order.
+    pub fn into_steps(self) -> (Spared, Vec<CostlyStep>) {
+        let Strategy {
+            spared,
+            payments,
+            ..
+        } = self;
+        (spared, payments.into_steps())
+    }
+
+    /// Whether a query isn't closed for which moves are made.
+    fn is_asked(&self, decls: &Decls, closed: &ClosedQueries) -> bool {
+        match &self.goal {
+            Some(queries) => queries.iter().any(|number| !closed.is_closed(*number)),
+            None => is_some_open(decls, closed),
         }
     }
 
@@ -109,7 +148,7 @@ impl Strategy {
         ensures grows { Grows pool.old pool.new }
     {
         if self.may_look(pool, game) {
-            suggest_settling(alloc, pool, decls, game, self.number)
+            suggest_settling(alloc, pool, decls, game, self.spared.chances(), self.number)
         } else {
             Ok(None)
         }
@@ -143,9 +182,13 @@ impl Strategy {
     pub fn accept(&mut self)
         ensures { self.new.phase ≡ phase_behind self.old.phase }
     {
+        self.payments.accept();
         match self.phase {
             Phase::Settling => self.begin(Phase::Settling),
-            Phase::Closing => self.pass_over(),
+            Phase::Closing => {
+                self.payments.close();
+                self.pass_over();
+            }
             Phase::Moving => self.begin(Phase::Settling),
             Phase::Pruning => self.continue_at(self.number.saturating_sub(1)),
             Phase::Carrying => self.continue_at(0),
@@ -292,7 +335,7 @@ impl Strategy {
         ensures grows { Grows pool.old pool.new }
     {
         if let Phase::Moving = self.phase {
-            let step = suggest_move(alloc, pool, decls, game, self.number)?;
+            let step = suggest_move(alloc, pool, decls, game, &self.spared, self.number)?;
             if step.is_some() || !self.goes_further {
                 return Ok(step);
             }
@@ -351,15 +394,23 @@ impl Strategy {
             }
             self.begin(Phase::Moving);
         }
-        if !may_move || !is_some_open(decls, closed) || !self.may_look(pool, game) {
+        if !may_move || !self.is_asked(decls, closed) || !self.may_look(pool, game) {
             return Ok(None);
         }
         self.make_move(alloc, pool, decls, game)
     }
 
-    /// The next step to try in a game where these queries are closed, if there is one: moves come only where a query is open.
+    /// Notes what is proposed, if it is a costly step.
+    fn note(&mut self, step: &Option<Proposal>) -> Result<(), PoolError> {
+        match self.payments.propose(step) {
+            Ok(()) => Ok(()),
+            Err(AllocError) => Err(PoolError::OutOfMemory),
+        }
+    }
+
+    /// The next step: one of those that go on in their phase, or by the phase.
     #[tactic(auto, using(crate::proofs::Growing::growing))]
-    pub fn propose(
+    fn find_next(
         &mut self,
         alloc: Global,
         pool: &mut Pool,
@@ -379,5 +430,26 @@ impl Strategy {
             self.begin(Phase::Settling);
         }
         self.go_by_phase(alloc, pool, decls, game, closed, may_move)
+    }
+
+    /// The next step to try in a game where these queries are closed, if there is one: moves come only where a query is open.
+    #[tactic(auto, using(crate::proofs::Growing::growing))]
+    pub fn propose(
+        &mut self,
+        alloc: Global,
+        pool: &mut Pool,
+        decls: &Decls,
+        game: NodeId,
+        closed: &ClosedQueries,
+        may_move: bool,
+    ) -> Result<Option<Proposal>, PoolError>
+        ensures below { IfOk result (λ o. IfSome o (IsProposalBelow (length pool.new.trees))) }
+        ensures grows { Grows pool.old pool.new }
+    {
+        let step = self.find_next(alloc, pool, decls, game, closed, may_move)?;
+        if self.goes_further {
+            self.note(&step)?;
+        }
+        Ok(step)
     }
 }

@@ -7,7 +7,7 @@ use cv_lex::tokens;
 use cv_outside::{MemSink, PutError, Sink};
 use cv_parse::file;
 use cv_report::outcome::write;
-use cv_report::{Cause, Command, Report, Status, Stream, Verdict};
+use cv_report::{Cause, Command, Report, Status, Stream, Verdict, rest_text};
 use cv_syntax::{File, Work};
 use std::alloc::Global;
 use std::process::Abort;
@@ -28,6 +28,9 @@ const LINES: [&str; 7] = [
 ];
 
 const END: &str = "end 1 open: stuck\n";
+
+/// What is put behind the lines of games where the query was asked alone, as the second of a file.
+const ALONE: &str = "query 2 alone open\nend 1 open: stuck\n";
 
 /// A sink that takes one byte at each call.
 #[derive(Drop)]
@@ -76,6 +79,7 @@ fn report(rt: &impl Abort, alloc: Global) -> Result<Report, Fail>
         command: Command::Prove {
             moves: 32,
             more: false,
+            query: None,
         },
         script: None,
         verdicts,
@@ -125,5 +129,18 @@ fn each_line_fails(rt: HostRuntime) -> Result<(), Fail> {
         assert_eq!(rt; ended, Status::Write);
         assert_eq!(rt; sink.taken(), text(alloc, k)?.as_bytes());
     }
+    Ok(())
+}
+
+#[test]
+fn a_query_asked_alone(rt: HostRuntime) -> Result<(), Fail> {
+    let alloc = rt.alloc();
+    let mut report = report(&rt, alloc)?;
+    report.command = Command::Prove {
+        moves: 32,
+        more: false,
+        query: Some(2),
+    };
+    assert_eq!(rt; rest_text(alloc, &report)?.as_slice(), ALONE.as_bytes());
     Ok(())
 }

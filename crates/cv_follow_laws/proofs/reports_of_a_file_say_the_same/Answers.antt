@@ -15,7 +15,7 @@ pub returns-clause-verdicts : goal.returns-clause-verdicts
 returns-clause-verdicts c = λ source r q f g w v n l. verdicts_are source r q f g w v n l
 
 pub returns-clause-text : goal.returns-clause-text
-returns-clause-text c = λ source r q f g w v n l. body_is source r q f g w v n l
+returns-clause-text c = λ source r q f g w v n a l. body_is source r q f g w v n a l
 
 pub returns-clause-file : goal.returns-clause-file
 returns-clause-file c = λ source r q f g w v. file_is source r q f g w v

@@ -1,20 +1,24 @@
 -- Words in plain form are read.
-use Rattle.std.proofs.Common.{◌≡◌, ◌==◌, ◌∙◌, Contains, All, ℕ, suc, ◌<◌, ◌≤◌, ◌^◌, Bool, true, false, cond, not, List, [], ◌∷◌, length, Option, Some, None, option_map, option_and_then, codes, ap, refl, sym, arith}
+use Rattle.std.proofs.Common.{◌≡◌, ◌==◌, ◌∙◌, ◌++◌, Contains, ℕ, suc, ◌<◌, ◌≤◌, ◌^◌, Bool, true, false, cond, not, List, [], ◌∷◌, length, Option, Some, None, option_map, option_and_then, unwrap_or, codes, ap, refl, subst, sym, arith}
 use Rattle.std.proofs.lemmas.Bool.{ne_eqb}
 use Rattle.std.proofs.lemmas.Fmt.{decimal_is_IsNumeral}
-use Rattle.std.proofs.lemmas.List.Elements.{All-cons, All-contains, All-nil}
 use Rattle.std.proofs.lemmas.Slice.Eq.{bytes_eq-Decides}
 use Rattle.std.proofs.lemmas.Str.Parse.{digit_from_value}
 use Rattle.std.specs.Fmt.{decimal}
+use Rattle.std.specs.Prelude.{IfSome}
 use Rattle.std.specs.Str.{bytes_eq}
 use Rattle.std.specs.Str.Parse.{AllDigits}
 use Rattle.clap.specs.Lexer.{strip_byte}
-use Rattle.cv_outside.specs.words.Forms.{Asked, Games, IsForm, Part, Prove, Sample, Text, games_parts, is_operand, most_moves, most_samples, orders, prove_parts, sample_parts, usual_moves}
+use Rattle.clap.specs.Simple.{Shape}
+use Rattle.cv_outside.specs.words.Forms.{Asked, Games, IsForm, Part, Prove, Sample, Text, is_operand, line, most_moves, most_queries, most_samples, orders, usual_moves}
 use Rattle.cv_outside.specs.words.Forms as form
-use Rattle.cv_outside.specs.words.Words.{command_read, file_in, games_asked, library_in, moves_in, number_in, prove_asked, sample_asked}
-use Rattle.cv_outside.proofs.words.Found.{FileReads, IsPlainWord, NumberReads, proves, samples, shows}
+use Rattle.cv_outside.specs.words.Words.{command_read, file_in, games_asked, is_set, library_in, moves_in, number_in, prove_asked, query_in, sample_asked}
+use Rattle.cv_outside.proofs.words.Arranged.{Every, Use, apart}
+use Rattle.cv_outside.proofs.words.Asks.{Asks, flag_text, games_asks, games_uses, given, prove_asks, prove_uses, sample_asks, sample_uses, set}
+use Rattle.cv_outside.proofs.words.Lines.{IsSubcommand, games_line, prove_line, sample_line}
 use Rattle.cv_outside.proofs.words.Numbers.{number_some}
-use Rattle.cv_outside.proofs.words.Orders.{games_file_alone, games_file_lib, games_lib_file, prove_file_alone, prove_file_lib, prove_file_lib_more, prove_file_lib_more_moves, prove_file_lib_moves, prove_file_lib_moves_more, prove_file_more, prove_file_more_lib, prove_file_more_lib_moves, prove_file_more_moves, prove_file_more_moves_lib, prove_file_moves, prove_file_moves_lib, prove_file_moves_lib_more, prove_file_moves_more, prove_file_moves_more_lib, prove_lib_file, prove_lib_file_more, prove_lib_file_more_moves, prove_lib_file_moves, prove_lib_file_moves_more, prove_lib_more_file, prove_lib_more_file_moves, prove_lib_more_moves_file, prove_lib_moves_file, prove_lib_moves_file_more, prove_lib_moves_more_file, prove_more_file, prove_more_file_lib, prove_more_file_lib_moves, prove_more_file_moves, prove_more_file_moves_lib, prove_more_lib_file, prove_more_lib_file_moves, prove_more_lib_moves_file, prove_more_moves_file, prove_more_moves_file_lib, prove_more_moves_lib_file, prove_moves_file, prove_moves_file_lib, prove_moves_file_lib_more, prove_moves_file_more, prove_moves_file_more_lib, prove_moves_lib_file, prove_moves_lib_file_more, prove_moves_lib_more_file, prove_moves_more_file, prove_moves_more_file_lib, prove_moves_more_lib_file, sample_number_alone, sample_number_prove, sample_prove_number}
+use Rattle.cv_outside.proofs.words.Parts.{IsPlainWord, flag_read, flag_use, games_file_read, games_lib_read, games_lib_use, games_shape, more_read, more_use, moves_read, moves_use, number_read, prove_file_read, prove_lib_read, prove_lib_use, prove_shape, query_read, query_use, sample_shape}
+use Rattle.cv_outside.proofs.words.Walks.{IsRead, parts_are_read}
 
 not_true : (x : Bool) → not x ≡ true → x ≡ false
 not_true false e = refl
@@ -51,105 +55,92 @@ named (b ∷ bs) e = ap (λ x. cond x None (Some (b ∷ bs))) (ne_eqb (suc (leng
 number_here : (least most n : ℕ) → most < 2 ^ 64 → least ≤ n → n ≤ most → number_in least most (decimal n) ≡ Some n
 number_here least most n small l m = sym (number_some least most n (decimal n) (omega arith) (refl, (l, m)))
 
--- what holds of each of some lists of parts holds of one of them
+-- the same where there may be a word
 
-abbrev Each : (List Part → Type 0) → List (List Part) → Type 0
-Each P [] = Unit {0}
-Each P (x ∷ xs) = P x × Each P xs
+numbered : (most : ℕ) (n : Option ℕ) → most < 2 ^ 64 → IfSome n (λ m. m ≤ most) → IfSome (option_map decimal n) IsPlainWord
+numbered most None small l = tt
+numbered most (Some n) small l = let few : n ≤ most = l in number_word n (omega arith)
 
-each_all : (P : List Part → Type 0) (xs : List (List Part)) → Each P xs → All P xs
-each_all P [] h = All-nil P
-each_all P (x ∷ xs) h = All-cons P x xs h.0 (each_all P xs h.1)
+library_word : (library : Option Text) → IfSome library (λ name. is_operand name ≡ true) → IfSome library IsPlainWord
+library_word None e = tt
+library_word (Some name) e = plain_word name e
 
-within : (P : List Part → Type 0) (xs : List (List Part)) (x : List Part) → Each P xs → Contains xs x → P x
-within P xs x h c = All-contains P xs x (each_all P xs h) c
+queried : (query : Option ℕ) → IfSome query (λ k. (1 ≤ k) × (k ≤ most_queries)) → IfSome query (λ k. k ≤ most_queries)
+queried None l = tt
+queried (Some k) l = l.1
 
 -- what the values come to
 
-prove_here : (file : Text) (moves : Option Text) (n : ℕ) (flag : Text) (library : Option Text) → is_operand file ≡ true → moves_in moves ≡ Some n → library_in library ≡ Some library
-    → prove_asked (Some file) moves (Some flag) library ≡ Some (Prove file n (bytes_eq flag (codes "true")) library)
-prove_here file moves n flag library o m l =
-    ap (λ f. option_and_then (λ name. option_and_then (λ k. option_map (λ b. Prove name k (bytes_eq flag (codes "true")) b) (library_in library)) (moves_in moves)) f) (named file o)
-    ∙ ap (λ m. option_and_then (λ k. option_map (λ b. Prove file k (bytes_eq flag (codes "true")) b) (library_in library)) m) m
-    ∙ ap (option_map (λ b. Prove file n (bytes_eq flag (codes "true")) b)) l
+moves_here : (moves : Option ℕ) → IfSome moves (λ n. n ≤ most_moves) → moves_in (option_map decimal moves) ≡ Some (unwrap_or moves usual_moves)
+moves_here None l = refl
+moves_here (Some n) l = number_here 0 most_moves n (omega arith) (omega arith) l
 
-games_here : (file : Text) (library : Option Text) → is_operand file ≡ true → library_in library ≡ Some library → games_asked (Some file) library ≡ Some (Games file library)
-games_here file library o l = ap (λ f. option_and_then (λ name. option_map (λ b. Games name b) (library_in library)) f) (named file o) ∙ ap (option_map (λ b. Games file b)) l
+library_here : (library : Option Text) → IfSome library (λ name. is_operand name ≡ true) → library_in library ≡ Some library
+library_here None e = refl
+library_here (Some name) e = ap (option_map (λ x. Some x)) (named name e)
 
-sample_here : (n : ℕ) (flag : Text) → 1 ≤ n → n ≤ most_samples → sample_asked (Some (decimal n)) (Some flag) ≡ Some (Sample n (bytes_eq flag (codes "true")))
-sample_here n flag l m = ap (λ o. option_map (λ k. Sample k (bytes_eq flag (codes "true"))) o) (number_here 1 most_samples n (omega arith) l m)
+query_here : (query : Option ℕ) → IfSome query (λ k. (1 ≤ k) × (k ≤ most_queries)) → query_in (option_map decimal query) ≡ Some query
+query_here None l = refl
+query_here (Some k) l = ap (option_map (λ x. Some x)) (number_here 1 most_queries k (omega arith) l.0 l.1)
+
+set_here : (flag : Bool) → is_set (Some (flag_text flag)) ≡ flag
+set_here false = refl
+set_here true = refl
+
+prove_here : (file : Text) (moves : Option ℕ) (more : Bool) (library : Option Text) (query : Option ℕ) → is_operand file ≡ true → IfSome moves (λ n. n ≤ most_moves) → IfSome library (λ name. is_operand name ≡ true)
+    → IfSome query (λ k. (1 ≤ k) × (k ≤ most_queries)) → prove_asked (Some file) (option_map decimal moves) (Some (flag_text more)) library (option_map decimal query) ≡ Some (Prove file (unwrap_or moves usual_moves) more library query)
+prove_here file moves more library query o b l q =
+    λ i. option_and_then (λ name. option_and_then (λ n. option_and_then (λ x. option_map (λ k. Prove name n (set_here more i) x k) (query_here query q i)) (library_here library l i)) (moves_here moves b i)) (named file o i)
+
+games_here : (file : Text) (library : Option Text) → is_operand file ≡ true → IfSome library (λ name. is_operand name ≡ true) → games_asked (Some file) library ≡ Some (Games file library)
+games_here file library o l = λ i. option_and_then (λ name. option_map (λ x. Games name x) (library_here library l i)) (named file o i)
+
+sample_here : (n : ℕ) (prove : Bool) → 1 ≤ n → n ≤ most_samples → sample_asked (Some (decimal n)) (Some (flag_text prove)) ≡ Some (Sample n prove)
+sample_here n prove l m = λ i. option_map (λ k. Sample k (set_here prove i)) (number_here 1 most_samples n (omega arith) l m i)
+
+-- each part is read
+
+every_more : (P : Use → Type 0) (us vs : List Use) → Every P us → Every P vs → Every P (us ++ vs)
+every_more P [] vs e f = f
+every_more P (u ∷ us) vs e f = (e.0, every_more P us vs e.1 f)
+
+each_given : (P : Use → Type 0) (gives : Text → Use) (value : Option Text) → ((word : Text) → IsPlainWord word → P (gives word)) → IfSome value IsPlainWord → Every P (given gives value)
+each_given P gives None h k = tt
+each_given P gives (Some word) h k = (h word k, tt)
+
+each_set : (P : Use → Type 0) (gives : Use) (flag : Bool) → P gives → Every P (set gives flag)
+each_set P gives false h = tt
+each_set P gives true h = (h, tt)
+
+prove_reads : (file : Text) (moves : Option Text) (more : Bool) (library query : Option Text) → IsPlainWord file → IfSome moves IsPlainWord → IfSome library IsPlainWord → IfSome query IsPlainWord
+    → Every (IsRead prove_shape (codes "file")) (prove_uses file moves more library query)
+prove_reads file moves more library query f m l q =
+    let P = IsRead prove_shape (codes "file") in
+    let last = every_more P (given prove_lib_use library) (given query_use query) (each_given P prove_lib_use library prove_lib_read l) (each_given P query_use query query_read q) in
+    let flags = every_more P (set more_use more) (given prove_lib_use library ++ given query_use query) (each_set P more_use more more_read) last in
+    (prove_file_read file f, every_more P (given moves_use moves) (set more_use more ++ (given prove_lib_use library ++ given query_use query)) (each_given P moves_use moves moves_read m) flags)
+
+by_parts : (program name operand : Text) (s : Shape) (us : List Use) (parts found : List Part) (asked : Option Asked) → IsSubcommand program name s → s.arg_required_else_help ≡ false → Every (IsRead s operand) us → Asks s name us parts asked
+    → Contains (orders parts) found → command_read (line program name found) ≡ asked
+by_parts program name operand s us parts found asked k plain e a c =
+    parts_are_read program name operand s us found k plain e (apart us a.apart) a.fault (subst (λ ps. Contains (orders ps) found) (sym a.words) c) ∙ a.asks
 
 pub plain_is_read : (program : Text) (words : List Text) (asked : Asked) → IsForm program words asked → command_read words ≡ Some asked
-plain_is_read program _ _ (form.prove file None false None parts o b q c) =
-    let f = plain_word file o in
-    proves program file None (codes "false") None (Some (Prove file usual_moves false None)) parts
-    (within (FileReads program (codes "prove") file None (Some (codes "false")) None) (orders (prove_parts file None false None)) parts (prove_file_alone program file f, tt) c)
-    (prove_here file None usual_moves (codes "false") None o refl refl)
-plain_is_read program _ _ (form.prove file None false (Some l) parts o b q c) =
-    let f = plain_word file o in
-    let k = plain_word l q in
-    proves program file None (codes "false") (Some l) (Some (Prove file usual_moves false (Some l))) parts
-    (within (FileReads program (codes "prove") file None (Some (codes "false")) (Some l)) (orders (prove_parts file None false (Some l))) parts (prove_file_lib program file l f k, (prove_lib_file program file l f k, tt)) c)
-    (prove_here file None usual_moves (codes "false") (Some l) o refl (ap (option_map (λ x. Some x)) (named l q)))
-plain_is_read program _ _ (form.prove file None true None parts o b q c) =
-    let f = plain_word file o in
-    proves program file None (codes "true") None (Some (Prove file usual_moves true None)) parts
-    (within (FileReads program (codes "prove") file None (Some (codes "true")) None) (orders (prove_parts file None true None)) parts (prove_file_more program file f, (prove_more_file program file f, tt)) c)
-    (prove_here file None usual_moves (codes "true") None o refl refl)
-plain_is_read program _ _ (form.prove file None true (Some l) parts o b q c) =
-    let f = plain_word file o in
-    let k = plain_word l q in
-    proves program file None (codes "true") (Some l) (Some (Prove file usual_moves true (Some l))) parts
-    (within (FileReads program (codes "prove") file None (Some (codes "true")) (Some l)) (orders (prove_parts file None true (Some l))) parts (prove_file_more_lib program file l f k, (prove_more_file_lib program file l f k, (prove_more_lib_file program file l f k, (prove_file_lib_more program file l f k, (prove_lib_file_more program file l f k, (prove_lib_more_file program file l f k, tt)))))) c)
-    (prove_here file None usual_moves (codes "true") (Some l) o refl (ap (option_map (λ x. Some x)) (named l q)))
-plain_is_read program _ _ (form.prove file (Some n) false None parts o b q c) =
-    let f = plain_word file o in
-    let few : n ≤ most_moves = b in
-    let m = number_word n (omega arith) in
-    proves program file (Some (decimal n)) (codes "false") None (Some (Prove file n false None)) parts
-    (within (FileReads program (codes "prove") file (Some (decimal n)) (Some (codes "false")) None) (orders (prove_parts file (Some n) false None)) parts (prove_file_moves program file (decimal n) f m, (prove_moves_file program file (decimal n) f m, tt)) c)
-    (prove_here file (Some (decimal n)) n (codes "false") None o (number_here 0 most_moves n (omega arith) (omega arith) b) refl)
-plain_is_read program _ _ (form.prove file (Some n) false (Some l) parts o b q c) =
-    let f = plain_word file o in
-    let few : n ≤ most_moves = b in
-    let m = number_word n (omega arith) in
-    let k = plain_word l q in
-    proves program file (Some (decimal n)) (codes "false") (Some l) (Some (Prove file n false (Some l))) parts
-    (within (FileReads program (codes "prove") file (Some (decimal n)) (Some (codes "false")) (Some l)) (orders (prove_parts file (Some n) false (Some l))) parts (prove_file_moves_lib program file (decimal n) l f m k, (prove_moves_file_lib program file (decimal n) l f m k, (prove_moves_lib_file program file (decimal n) l f m k, (prove_file_lib_moves program file (decimal n) l f m k, (prove_lib_file_moves program file (decimal n) l f m k, (prove_lib_moves_file program file (decimal n) l f m k, tt)))))) c)
-    (prove_here file (Some (decimal n)) n (codes "false") (Some l) o (number_here 0 most_moves n (omega arith) (omega arith) b) (ap (option_map (λ x. Some x)) (named l q)))
-plain_is_read program _ _ (form.prove file (Some n) true None parts o b q c) =
-    let f = plain_word file o in
-    let few : n ≤ most_moves = b in
-    let m = number_word n (omega arith) in
-    proves program file (Some (decimal n)) (codes "true") None (Some (Prove file n true None)) parts
-    (within (FileReads program (codes "prove") file (Some (decimal n)) (Some (codes "true")) None) (orders (prove_parts file (Some n) true None)) parts (prove_file_moves_more program file (decimal n) f m, (prove_moves_file_more program file (decimal n) f m, (prove_moves_more_file program file (decimal n) f m, (prove_file_more_moves program file (decimal n) f m, (prove_more_file_moves program file (decimal n) f m, (prove_more_moves_file program file (decimal n) f m, tt)))))) c)
-    (prove_here file (Some (decimal n)) n (codes "true") None o (number_here 0 most_moves n (omega arith) (omega arith) b) refl)
-plain_is_read program _ _ (form.prove file (Some n) true (Some l) parts o b q c) =
-    let f = plain_word file o in
-    let few : n ≤ most_moves = b in
-    let m = number_word n (omega arith) in
-    let k = plain_word l q in
-    proves program file (Some (decimal n)) (codes "true") (Some l) (Some (Prove file n true (Some l))) parts
-    (within (FileReads program (codes "prove") file (Some (decimal n)) (Some (codes "true")) (Some l)) (orders (prove_parts file (Some n) true (Some l))) parts (prove_file_moves_more_lib program file (decimal n) l f m k, (prove_moves_file_more_lib program file (decimal n) l f m k, (prove_moves_more_file_lib program file (decimal n) l f m k, (prove_moves_more_lib_file program file (decimal n) l f m k, (prove_file_more_moves_lib program file (decimal n) l f m k, (prove_more_file_moves_lib program file (decimal n) l f m k, (prove_more_moves_file_lib program file (decimal n) l f m k, (prove_more_moves_lib_file program file (decimal n) l f m k, (prove_file_more_lib_moves program file (decimal n) l f m k, (prove_more_file_lib_moves program file (decimal n) l f m k, (prove_more_lib_file_moves program file (decimal n) l f m k, (prove_more_lib_moves_file program file (decimal n) l f m k, (prove_file_moves_lib_more program file (decimal n) l f m k, (prove_moves_file_lib_more program file (decimal n) l f m k, (prove_moves_lib_file_more program file (decimal n) l f m k, (prove_moves_lib_more_file program file (decimal n) l f m k, (prove_file_lib_moves_more program file (decimal n) l f m k, (prove_lib_file_moves_more program file (decimal n) l f m k, (prove_lib_moves_file_more program file (decimal n) l f m k, (prove_lib_moves_more_file program file (decimal n) l f m k, (prove_file_lib_more_moves program file (decimal n) l f m k, (prove_lib_file_more_moves program file (decimal n) l f m k, (prove_lib_more_file_moves program file (decimal n) l f m k, (prove_lib_more_moves_file program file (decimal n) l f m k, tt)))))))))))))))))))))))) c)
-    (prove_here file (Some (decimal n)) n (codes "true") (Some l) o (number_here 0 most_moves n (omega arith) (omega arith) b) (ap (option_map (λ x. Some x)) (named l q)))
-plain_is_read program _ _ (form.games file None parts o q c) =
-    let f = plain_word file o in
-    shows program file None (Some (Games file None)) parts
-    (within (FileReads program (codes "games") file None None None) (orders (games_parts file None)) parts (games_file_alone program file f, tt) c)
-    (games_here file None o refl)
-plain_is_read program _ _ (form.games file (Some l) parts o q c) =
-    let f = plain_word file o in
-    let k = plain_word l q in
-    shows program file (Some l) (Some (Games file (Some l))) parts
-    (within (FileReads program (codes "games") file None None (Some l)) (orders (games_parts file (Some l))) parts (games_file_lib program file l f k, (games_lib_file program file l f k, tt)) c)
-    (games_here file (Some l) o (ap (option_map (λ x. Some x)) (named l q)))
-plain_is_read program _ _ (form.sample n false parts l b c) =
-    let m = number_word n (omega arith) in
-    samples program (decimal n) (codes "false") (Some (Sample n false)) parts
-    (within (NumberReads program (decimal n) (codes "false")) (orders (sample_parts n false)) parts (sample_number_alone program (decimal n) m, tt) c)
-    (sample_here n (codes "false") l b)
-plain_is_read program _ _ (form.sample n true parts l b c) =
-    let m = number_word n (omega arith) in
-    samples program (decimal n) (codes "true") (Some (Sample n true)) parts
-    (within (NumberReads program (decimal n) (codes "true")) (orders (sample_parts n true)) parts (sample_number_prove program (decimal n) m, (sample_prove_number program (decimal n) m, tt)) c)
-    (sample_here n (codes "true") l b)
+plain_is_read program _ _ (form.prove file moves more library query parts o b l q c) =
+    let m = option_map decimal moves in
+    let k = option_map decimal query in
+    by_parts program (codes "prove") (codes "file") prove_shape (prove_uses file m more library k) _ parts _ (prove_line program) refl
+    (prove_reads file m more library k (plain_word file o) (numbered most_moves moves (omega arith) b) (library_word library l) (numbered most_queries query (omega arith) (queried query q)))
+    (prove_asks file m more library k) c
+    ∙ prove_here file moves more library query o b l q
+plain_is_read program _ _ (form.games file library parts o l c) =
+    let P = IsRead games_shape (codes "file") in
+    by_parts program (codes "games") (codes "file") games_shape (games_uses file library) _ parts _ (games_line program) refl
+    (games_file_read file (plain_word file o), each_given P games_lib_use library games_lib_read (library_word library l))
+    (games_asks file library) c
+    ∙ games_here file library o l
+plain_is_read program _ _ (form.sample n prove parts l m c) =
+    by_parts program (codes "sample") (codes "number") sample_shape (sample_uses (decimal n) prove) _ parts _ (sample_line program) refl
+    (number_read (decimal n) (number_word n (omega arith)), each_set (IsRead sample_shape (codes "number")) flag_use prove flag_read)
+    (sample_asks (decimal n) prove) c
+    ∙ sample_here n prove l m

@@ -26,11 +26,14 @@ more_rule = record (new_rule (codes "more")) { long = Some (codes "more"); actio
 abbrev pub lib_rule : Rule
 lib_rule = record (new_rule (codes "lib")) { long = Some (codes "lib") }
 
+abbrev pub query_rule : Rule
+query_rule = record (new_rule (codes "query")) { long = Some (codes "query") }
+
 abbrev pub prove_rule : Rule
 prove_rule = record (new_rule (codes "prove")) { long = Some (codes "prove"); action = Some SetTrue }
 
 abbrev pub prove_app : App
-prove_app = with_rule (with_rule (with_rule (with_rule (new_app (codes "prove")) file_rule) moves_rule) more_rule) lib_rule
+prove_app = with_rule (with_rule (with_rule (with_rule (with_rule (new_app (codes "prove")) file_rule) moves_rule) more_rule) lib_rule) query_rule
 
 abbrev pub games_app : App
 games_app = with_rule (with_rule (new_app (codes "games")) file_rule) lib_rule

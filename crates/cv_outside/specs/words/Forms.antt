@@ -7,10 +7,10 @@ use Rattle.std.specs.List.{flat_map}
 abbrev pub Text : Type 0
 Text = List ℕ
 
--- a proof of a file's queries, in at most so many moves, with or without further ones; the games of its proof block, both with or without
--- a library; the text of a sample, or a proof of its queries
+-- a proof of a file's queries, or of the one with this number alone, in at most so many moves, with or without further ones; the games of its
+-- proof block, both with or without a library; the text of a sample, or a proof of its queries
 pub data Asked : Type 0 where
-  Prove : (file : Text) (moves : ℕ) (more : Bool) (library : Option Text) → Asked
+  Prove : (file : Text) (moves : ℕ) (more : Bool) (library : Option Text) (query : Option ℕ) → Asked
   Games : (file : Text) (library : Option Text) → Asked
   Sample : (number : ℕ) (prove : Bool) → Asked
 
@@ -20,6 +20,10 @@ usual_moves = 32
 
 abbrev pub most_moves : ℕ
 most_moves = 1000
+
+-- which number a query that is asked alone may have, from 1 on
+abbrev pub most_queries : ℕ
+most_queries = 1000000
 
 -- the samples that there are, from 1 on
 abbrev pub most_samples : ℕ
@@ -44,8 +48,9 @@ flagged name true = (name ∷ []) ∷ []
 
 -- a number is written in decimal digits, without sign or leading zero
 
-abbrev pub prove_parts : (file : Text) (moves : Option ℕ) (more : Bool) (library : Option Text) → List Part
-prove_parts file moves more library = (file ∷ []) ∷ (valued (codes "--moves") (option_map decimal moves) ++ (flagged (codes "--more") more ++ valued (codes "--lib") library))
+abbrev pub prove_parts : (file : Text) (moves : Option ℕ) (more : Bool) (library : Option Text) (query : Option ℕ) → List Part
+prove_parts file moves more library query =
+    (file ∷ []) ∷ (valued (codes "--moves") (option_map decimal moves) ++ (flagged (codes "--more") more ++ (valued (codes "--lib") library ++ valued (codes "--query") (option_map decimal query))))
 
 abbrev pub games_parts : (file : Text) (library : Option Text) → List Part
 games_parts file library = (file ∷ []) ∷ valued (codes "--lib") library
@@ -67,10 +72,12 @@ orders (p ∷ ps) = flat_map (placed p) (orders ps)
 abbrev pub line : (program name : Text) → List Part → List Text
 line program name parts = program ∷ name ∷ flat_map (λ p. p) parts
 
+-- `prove FILE`, with each of `--moves N`, `--more`, `--lib LIB` and `--query K` once or not at all; `games FILE`, with `--lib LIB` or not;
+-- `sample N`, with `--prove` or not: the parts behind the name of the subcommand in any order
 pub data IsForm (program : Text) : List Text → Asked → Type 0 where
-  prove : (file : Text) (moves : Option ℕ) (more : Bool) (library : Option Text) (parts : List Part)
-      → is_operand file ≡ true → IfSome moves (λ n. n ≤ most_moves) → IfSome library (λ name. is_operand name ≡ true)
-      → Contains (orders (prove_parts file moves more library)) parts → IsForm program (line program (codes "prove") parts) (Prove file (unwrap_or moves usual_moves) more library)
+  prove : (file : Text) (moves : Option ℕ) (more : Bool) (library : Option Text) (query : Option ℕ) (parts : List Part)
+      → is_operand file ≡ true → IfSome moves (λ n. n ≤ most_moves) → IfSome library (λ name. is_operand name ≡ true) → IfSome query (λ k. (1 ≤ k) × (k ≤ most_queries))
+      → Contains (orders (prove_parts file moves more library query)) parts → IsForm program (line program (codes "prove") parts) (Prove file (unwrap_or moves usual_moves) more library query)
   games : (file : Text) (library : Option Text) (parts : List Part)
       → is_operand file ≡ true → IfSome library (λ name. is_operand name ≡ true)
       → Contains (orders (games_parts file library)) parts → IsForm program (line program (codes "games") parts) (Games file library)

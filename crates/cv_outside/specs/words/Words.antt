@@ -5,7 +5,7 @@ use Rattle.std.specs.Str.{bytes_eq}
 use Rattle.std.specs.Str.Parse.{digits_value}
 use Rattle.clap.specs.Words.{Row, first_of}
 use Rattle.cv_outside.specs.words.Clap.{taken}
-use Rattle.cv_outside.specs.words.Forms.{Asked, Games, Prove, Sample, Text, most_moves, most_samples, usual_moves}
+use Rattle.cv_outside.specs.words.Forms.{Asked, Games, Prove, Sample, Text, most_moves, most_queries, most_samples, usual_moves}
 use Rattle.cv_outside.specs.declared.words.words.Request.{Request}
 use Rattle.cv_outside.specs.declared.words.words.Request.TheVariants as request
 
@@ -27,6 +27,11 @@ abbrev pub library_in : Option Text → Option (Option Text)
 library_in None = Some None
 library_in (Some name) = option_map (λ n. Some n) (file_in (Some name))
 
+-- a query that is asked alone has such a number, or there is none
+abbrev pub query_in : Option Text → Option (Option ℕ)
+query_in None = Some None
+query_in (Some text) = option_map (λ k. Some k) (number_in 1 most_queries text)
+
 -- whether a flag was given
 abbrev pub is_set : Option Text → Bool
 is_set None = false
@@ -34,9 +39,9 @@ is_set (Some text) = bytes_eq text (codes "true")
 
 -- what a subcommand asks for, by its name and by what stands behind it
 
-abbrev pub prove_asked : (file moves more library : Option Text) → Option Asked
-prove_asked file moves more library =
-    option_and_then (λ name. option_and_then (λ n. option_map (λ l. Prove name n (is_set more) l) (library_in library)) (moves_in moves)) (file_in file)
+abbrev pub prove_asked : (file moves more library query : Option Text) → Option Asked
+prove_asked file moves more library query =
+    option_and_then (λ name. option_and_then (λ n. option_and_then (λ l. option_map (λ k. Prove name n (is_set more) l k) (query_in query)) (library_in library)) (moves_in moves)) (file_in file)
 
 abbrev pub games_asked : (file library : Option Text) → Option Asked
 games_asked file library = option_and_then (λ name. option_map (λ l. Games name l) (library_in library)) (file_in file)
@@ -46,7 +51,8 @@ sample_asked number prove = option_map (λ n. Sample n (is_set prove)) (option_a
 
 abbrev pub asked_by : Text → List Row → Option Asked
 asked_by name rows =
-    if bytes_eq name (codes "prove") then prove_asked (first_of (codes "file") rows) (first_of (codes "moves") rows) (first_of (codes "more") rows) (first_of (codes "lib") rows)
+    if bytes_eq name (codes "prove")
+    then prove_asked (first_of (codes "file") rows) (first_of (codes "moves") rows) (first_of (codes "more") rows) (first_of (codes "lib") rows) (first_of (codes "query") rows)
     else (if bytes_eq name (codes "games") then games_asked (first_of (codes "file") rows) (first_of (codes "lib") rows)
     else sample_asked (first_of (codes "number") rows) (first_of (codes "prove") rows))
 
@@ -56,6 +62,6 @@ command_read words = option_and_then (λ p. asked_by p.0 p.1) (taken words)
 
 -- the same of what was read
 abbrev pub asked_of : Request → Asked
-asked_of (request.Prove file moves more library) = Prove file.now moves more (option_map (λ l. l.now) library)
+asked_of (request.Prove file moves more library query) = Prove file.now moves more (option_map (λ l. l.now) library) query
 asked_of (request.Games file library) = Games file.now (option_map (λ l. l.now) library)
 asked_of (request.Sample number prove) = Sample number prove

@@ -1,7 +1,7 @@
 ghost use Rattle.std.specs.Prelude.{◌≡◌, IfOk, codes, false};
 ghost use Rattle.clap.specs.Simple.{on_top};
 ghost use Rattle.clap.specs.Words.{app_of, new_app, rule_of};
-ghost use Rattle.cv_outside.specs.words.Clap.{cv_app, file_rule, lib_rule, more_rule, moves_rule, number_rule, prove_rule, quiet};
+ghost use Rattle.cv_outside.specs.words.Clap.{cv_app, file_rule, lib_rule, more_rule, moves_rule, number_rule, prove_rule, query_rule, quiet};
 
 use clap::{Arg, ArgAction, Command};
 use std::alloc::{AllocError, Global};
@@ -48,6 +48,14 @@ fn lib_arg<'a>(alloc: Global) -> Arg<'a>
     Arg::new(alloc, "lib").long("lib")
 }
 
+/// The option that numbers a query which is asked alone.
+fn query_arg<'a>(alloc: Global) -> Arg<'a>
+    ensures rule { rule_of result ≡ query_rule }
+    ensures local { result.global ≡ false }
+{
+    Arg::new(alloc, "query").long("query")
+}
+
 /// The flag that asks for a proof of a sample.
 fn prove_arg<'a>(alloc: Global) -> Arg<'a>
     ensures rule { rule_of result ≡ prove_rule }
@@ -69,8 +77,8 @@ fn quiet_command<'a>(alloc: Global) -> Command<'a>
         .subcommand_required(true)
 }
 
-/// The program's command line: `prove FILE [--moves N] [--more] [--lib LIB]`, `games FILE [--lib LIB]` or
-/// `sample N [--prove]`.
+/// The program's command line: `prove FILE [--moves N] [--more] [--lib LIB] [--query K]`, `games FILE [--lib LIB]`
+/// or `sample N [--prove]`.
 pub(crate) fn cv_command<'a>(alloc: Global) -> Result<Command<'a>, AllocError>
     ensures { IfOk result (λ c. app_of c ≡ cv_app) }
 {
@@ -78,11 +86,13 @@ pub(crate) fn cv_command<'a>(alloc: Global) -> Result<Command<'a>, AllocError>
     let moves = moves_arg(alloc);
     let more = more_arg(alloc);
     let lib = lib_arg(alloc);
+    let query = query_arg(alloc);
     let prove = Command::new(alloc, "prove")
         .arg(file)?
         .arg(moves)?
         .arg(more)?
-        .arg(lib)?;
+        .arg(lib)?
+        .arg(query)?;
     let shown = file_arg(alloc);
     let used = lib_arg(alloc);
     let games = Command::new(alloc, "games").arg(shown)?.arg(used)?;

@@ -3,7 +3,7 @@ ghost use Rattle.std.specs.Fmt.{decimal};
 ghost use Rattle.std.specs.Str.{bytes_eq};
 ghost use Rattle.clap.specs.Words.{first_of, found_of, rows_of, subcommand_rows_of};
 ghost use Rattle.cv_outside.specs.words.Clap.{taken};
-ghost use Rattle.cv_outside.specs.words.Words.{asked_by, asked_of, command_read, file_in, games_asked, is_set as set, library_in, moves_in, number_in as number_of, prove_asked, sample_asked};
+ghost use Rattle.cv_outside.specs.words.Words.{asked_by, asked_of, command_read, file_in, games_asked, is_set as set, library_in, moves_in, number_in as number_of, prove_asked, query_in, sample_asked};
 
 use crate::words::app::cv_command;
 use clap::ArgMatches;
@@ -16,18 +16,22 @@ const USUAL_MOVES: u32 = 32;
 /// How many moves the words may say.
 const MOST_MOVES: u32 = 1000;
 
+/// The last number that the words may give a query.
+const MOST_QUERIES: u32 = 1_000_000;
+
 /// The number of the last sample.
 const MOST_SAMPLES: u32 = 32;
 
 /// What words ask for.
 #[derive(Clone, Copy, Debug, PartialEq, Eq)]
 pub enum Request<'a> {
-    /// A proof of a file's queries, in at most so many moves, with or without further ones.
+    /// A proof of a file's queries, or of the one with this number alone, in at most so many moves, with or without further ones.
     Prove {
         file: &'a str,
         moves: u32,
         more: bool,
         library: Option<&'a str>,
+        query: Option<u32>,
     },
     /// The games of a file's proof block, without verdicts.
     Games {
@@ -114,6 +118,20 @@ fn moves(alloc: Global, matches: &ArgMatches<'_>) -> Result<Option<u32>, AllocEr
     }
 }
 
+/// The number of the query that is asked alone, or none.
+fn query(alloc: Global, matches: &ArgMatches<'_>) -> Result<Option<Option<u32>>, AllocError>
+    ensures { IfOk result (λ k. k
+        ≡ query_in (first_of (codes "query") (rows_of (found_of matches.now)))) }
+{
+    let Some(text) = given(matches, "query") else {
+        return Ok(Some(None));
+    };
+    match number_in(alloc, text, 1, MOST_QUERIES)? {
+        Some(number) => Ok(Some(Some(number))),
+        None => Ok(None),
+    }
+}
+
 /// Whether a flag is given.
 fn is_set(matches: &ArgMatches<'_>, id: &str) -> bool
     ensures { result ≡ set (first_of id.now (rows_of (found_of matches.now))) }
@@ -133,7 +151,8 @@ fn prove_request<'a>(
         ≡ prove_asked (first_of (codes "file") (rows_of (found_of matches.now)))
         (first_of (codes "moves") (rows_of (found_of matches.now)))
         (first_of (codes "more") (rows_of (found_of matches.now)))
-        (first_of (codes "lib") (rows_of (found_of matches.now)))) }
+        (first_of (codes "lib") (rows_of (found_of matches.now)))
+        (first_of (codes "query") (rows_of (found_of matches.now)))) }
 {
     let Some(file) = file(matches) else {
         return Ok(None);
@@ -144,11 +163,15 @@ fn prove_request<'a>(
     let Some(library) = library(matches) else {
         return Ok(None);
     };
+    let Some(query) = query(alloc, matches)? else {
+        return Ok(None);
+    };
     Ok(Some(Request::Prove {
         file,
         moves,
         more: is_set(matches, "more"),
         library,
+        query,
     }))
 }
 

@@ -12,6 +12,14 @@ marked_goes mark text xs k d start out marked new l i m n =
     ∙ (flat_map_more (λ x. mark ++ text x) start (take k xs) (get_or xs k d)
     ∙ ap (λ ys. start ++ flat_map (λ x. mark ++ text x) ys) (sym (take_more xs k d l)))))
 
+-- the same without a mark
+pub each_goes : {A : Type 0} (text : A → List ℕ) (xs : List A) (k : ℕ) (d : A) (start out new : List ℕ) → k < length xs → out ≡ start ++ flat_map text (take k xs) → new ≡ out ++ text (get_or xs k d) → new ≡ start ++ flat_map text (take (k + 1) xs)
+each_goes text xs k d start out new l i n =
+    n
+    ∙ (ap (λ o. o ++ text (get_or xs k d)) i
+    ∙ (flat_map_more text start (take k xs) (get_or xs k d)
+    ∙ ap (λ ys. start ++ flat_map text ys) (sym (take_more xs k d l))))
+
 pub marked_end : {A : Type 0} (text : A → List ℕ) (xs : List A) (k : ℕ) (start out : List ℕ) → length xs ≤ k → out ≡ start ++ flat_map text (take k xs) → out ≡ start ++ flat_map text xs
 marked_end text xs k start out l i = i ∙ ap (λ ys. start ++ flat_map text ys) (take_all k xs l)
 

@@ -27,7 +27,7 @@ fn unwritten(status: Status) -> Status
 }
 
 /// The report of a run that memory ran out in behind some of its steps: it has no verdicts.
-pub fn spent(alloc: Global, report: Report) -> Report
+pub fn out_of_memory(alloc: Global, report: Report) -> Report
     ensures { SaysMemory report result }
 {
     let mut report = report;
@@ -59,7 +59,7 @@ pub fn write<K: Sink>(alloc: Global, report: Report, stream: Stream, sink: &mut 
         },
         Flow::Spent => Outcome {
             status: Status::Memory,
-            report: spent(alloc, report),
+            report: out_of_memory(alloc, report),
         },
     }
 }

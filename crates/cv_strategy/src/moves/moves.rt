@@ -7,6 +7,7 @@ use crate::moves::instances::{Budget, Scene, outside_read};
 use crate::moves::reads::variables_of;
 use crate::moves::sides::{Side, sides_of};
 use crate::moves::variables::Variable;
+use crate::sparing::Spared;
 use cv_grounds::open;
 use cv_step_writer::Proposal;
 use cv_syntax::{Decls, Head, NameId, NodeId, Pool, PoolError, query_at};
@@ -79,12 +80,13 @@ fn secrets_of(alloc: Global, pool: &Pool, decls: &Decls) -> Result<HashSet<u32>,
     Ok(secrets)
 }
 
-/// A search for moves: what it reads, the variables of which a query asks, the moves that are still to be passed over, and what
-/// it may still compare.
+/// A search for moves: what it reads, the variables of which a query asks, the steps that are spared, the moves that are still to be
+/// passed over, and what it may still compare.
 #[derive(Drop)]
 struct Search<'a> {
     scene: Scene<'a>,
     secrets: HashSet<u32>,
+    spared: &'a Spared,
     number: u32,
     budget: Budget,
 }
@@ -108,9 +110,12 @@ impl<'a> Search<'a> {
         is_drawn_as_key(side, x) && !self.secrets.contains(&x.name)
     }
 
-    /// The cryptographic step for a variable, where it is read in instances alone.
+    /// The cryptographic step for a variable, where it is read in instances alone and the step isn't spared.
     fn crypto(&mut self, side: &Side, x: Variable) -> Result<Option<Move>, AllocError> {
         if !self.is_key(side, x) || x.sites != 1 || x.first == 0 || x.is_tested {
+            return Ok(None);
+        }
+        if self.spared.has_crypto(side.equivalence, x.name) {
             return Ok(None);
         }
         match outside_read(self.scene, side, x, &mut self.budget)? {
@@ -211,11 +216,12 @@ impl<'a> Search<'a> {
 }
 
 /// The move of this number, from 0.
-fn find(
+fn find<'a>(
     alloc: Global,
-    pool: &Pool,
-    decls: &Decls,
+    pool: &'a Pool,
+    decls: &'a Decls,
     game: NodeId,
+    spared: &'a Spared,
     number: u32,
 ) -> Result<Option<Move>, AllocError> {
     let variables = variables_of(alloc, pool, game)?;
@@ -228,6 +234,7 @@ fn find(
             variables: &variables,
         },
         secrets: secrets_of(alloc, pool, decls)?,
+        spared,
         number,
         budget: Budget {
             left: MOST_COMPARISONS,
@@ -239,9 +246,9 @@ fn find(
     }
 }
 
-/// The move of this number, from 0, that a settled game suggests: first the cryptographic steps, then those that are advised;
-/// each by equivalences in the order of the file, and then by variables in the order of their first sites. There is none where
-/// fewer are suggested. Whether a step may be taken is tested by the kernel. In place of its new names `SArename` has the name from
+/// The move of this number, from 0, that a settled game suggests: first the cryptographic steps that aren't spared, then those that
+/// are advised; each by equivalences in the order of the file, and then by variables in the order of their first sites. There is none
+/// where fewer are suggested. Whether a step may be taken is tested by the kernel. In place of its new names `SArename` has the name from
 /// which these are to be drawn.
 #[tactic(auto, using(cv_pool::proofs::Growth::Grows_refl))]
 pub fn suggest(
@@ -249,12 +256,13 @@ pub fn suggest(
     pool: &mut Pool,
     decls: &Decls,
     game: NodeId,
+    spared: &Spared,
     number: u32,
 ) -> Result<Option<Proposal>, PoolError>
     ensures below { IfOk result (λ o. IfSome o (IsProposalBelow (length pool.new.trees))) }
     ensures grows { Grows pool.old pool.new }
 {
-    let Ok(found) = find(alloc, pool, decls, game, number) else {
+    let Ok(found) = find(alloc, pool, decls, game, spared, number) else {
         return Err(PoolError::OutOfMemory);
     };
     let Some(step) = found else {

@@ -51,9 +51,6 @@ pub returns-in-Ok-clause-calls : goal.returns-in-Ok-clause-calls
 returns-in-Ok-clause-calls g c =
     run_calls c.derivations_are_sound.ensures.hold c.derivations_are_sound.ensures.unreached _ c.in-Ok.accepted.file _ (given_of c.args.source.now) (reads_at _ (given_of c.args.source.now) _ c.requires.limit c.in-Ok.ensures.reads) c.requires.few.file c.run_accepted.ensures.run.course c.run_accepted.ensures.run.has
 
-pub returns-in-Ok-clause-live : goal.returns-in-Ok-clause-live
-returns-in-Ok-clause-live g c = c.run_accepted.ensures.run.has.live
-
 pub returns-in-Ok-clause-begins : goal.returns-in-Ok-clause-begins
 returns-in-Ok-clause-begins g c = λ o given.
     run_begins _ c.in-Ok.accepted.file _ _ _ _ _ _ _ c.run_accepted.ensures.run (given_of c.args.source.now) (reads_at _ (given_of c.args.source.now) _ c.requires.limit c.in-Ok.ensures.reads) c.requires.few o given

@@ -30,8 +30,8 @@ returns-in-Some g c =
     let n = c.advance-end.new in
     let first = tree_at fn.pool.trees (Some c.args.game.root) in
     let at : length fn.pool.trees ≤ c.mark-mark.result.0 = omega (arith, c.mark-mark.ensures) in
-    fills_stop fn l.work n.work first c.args.script.now c.requires.steps.live l.step-index _ c.steps-test.true l.sequence n.sequence (g.K.Sink.taken c.args.sink.now) (g.K.Sink.taken l.sink) (g.K.Sink.taken n.sink) (g.K.Sink.faults c.args.sink.now) (g.K.Sink.faults l.sink) (g.K.Sink.faults n.sink) c.args.stream.now l.stream n.stream l.invariant.filling c.requires.below c.mark-mark.result.0 at c.in-Some.status c.stopped.result
-    (subst (Advances c.mark-mark.result.0 l.work n.work _ l.sequence n.sequence (λ a b. PutsOn (g.K.Sink.taken l.sink) (g.K.Sink.taken n.sink) (g.K.Sink.faults l.sink) (g.K.Sink.faults n.sink) a b l.stream n.stream)) c.in-Some.is c.in-Ok.ensures.advanced) c.stopped.ensures
+    fills_stop fn l.work n.work first c.args.script.now c.requires.steps.live l.step-index _ c.steps-test.true l.sequence n.sequence (g.K.Sink.taken c.args.sink.now) (g.K.Sink.taken l.sink) (g.K.Sink.taken n.sink) (g.K.Sink.faults c.args.sink.now) (g.K.Sink.faults l.sink) (g.K.Sink.faults n.sink) c.args.stream.now l.stream n.stream l.invariant.filling c.requires.below c.mark-mark.result.0 at c.in-Some.status c.walk_with_status.result
+    (subst (Advances c.mark-mark.result.0 l.work n.work _ l.sequence n.sequence (λ a b. PutsOn (g.K.Sink.taken l.sink) (g.K.Sink.taken n.sink) (g.K.Sink.faults l.sink) (g.K.Sink.faults n.sink) a b l.stream n.stream)) c.in-Some.is c.in-Ok.ensures.advanced) c.walk_with_status.ensures
 
 pub returns-in_default : goal.returns-in_default
 returns-in_default g c =
@@ -40,7 +40,7 @@ returns-in_default g c =
     let n = c.advance-end.new in
     let first = tree_at fn.pool.trees (Some c.args.game.root) in
     let at : length fn.pool.trees ≤ c.mark-mark.result.0 = omega (arith, c.mark-mark.ensures) in
-    fills_broken fn l.work n.work first c.args.script.now c.requires.steps.live l.step-index (record { 0 = c.args.game.root }) c.steps-test.true l.sequence n.sequence (g.K.Sink.taken c.args.sink.now) (g.K.Sink.taken l.sink) (g.K.Sink.taken n.sink) (g.K.Sink.faults c.args.sink.now) (g.K.Sink.faults l.sink) (g.K.Sink.faults n.sink) c.args.stream.now l.stream n.stream l.invariant.filling c.requires.below c.mark-mark.result.0 at c.spent.result c.in_default.ensures.cut c.spent.ensures.status c.spent.ensures.verdicts
+    fills_broken fn l.work n.work first c.args.script.now c.requires.steps.live l.step-index (record { 0 = c.args.game.root }) c.steps-test.true l.sequence n.sequence (g.K.Sink.taken c.args.sink.now) (g.K.Sink.taken l.sink) (g.K.Sink.taken n.sink) (g.K.Sink.faults c.args.sink.now) (g.K.Sink.faults l.sink) (g.K.Sink.faults n.sink) c.args.stream.now l.stream n.stream l.invariant.filling c.requires.below c.mark-mark.result.0 at c.out_of_memory.result c.in_default.ensures.cut c.out_of_memory.ensures.status c.out_of_memory.ensures.verdicts
 
 pub steps-preserved : goal.steps-preserved
 steps-preserved g c =
@@ -61,5 +61,5 @@ returns g c =
     let fn = c.args.work.now in
     let l = c.steps in
     let trees = fn.pool.trees in
-    filled_all fn l.work (tree_at trees (Some c.args.game.root)) l.sequence (trees_of trees (take l.step-index c.args.script.now)) (trees_of trees c.args.script.now) _ l.invariant.filling c.finished.result
-    (ap (trees_of trees) (take_all l.step-index c.args.script.now (omega (arith, c.steps-test.false)))) c.finished.ensures
+    filled_all fn l.work (tree_at trees (Some c.args.game.root)) l.sequence (trees_of trees (take l.step-index c.args.script.now)) (trees_of trees c.args.script.now) _ l.invariant.filling c.walk_to_end.result
+    (ap (trees_of trees) (take_all l.step-index c.args.script.now (omega (arith, c.steps-test.false)))) c.walk_to_end.ensures

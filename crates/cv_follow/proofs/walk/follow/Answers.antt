@@ -9,7 +9,7 @@ use Rattle.cv_follow.specs.Walks.{IsWalk, stop_of}
 use Rattle.cv_follow.proofs.Following.{asked, equivalences_kept}
 use Rattle.cv_kernel.proofs.Followed.{counted_after, room_after}
 use Rattle.cv_follow.proofs.Gone.{reached_so_far}
-use Rattle.cv_follow.proofs.Left.{walk_ends, walk_spent}
+use Rattle.cv_follow.proofs.Left.{walk_ends, walk_out_of_memory}
 use Rattle.cv_follow.proofs.Plain.{declared_stay, following_cut, following_more, following_none, following_stops, live_on}
 use Rattle.cv_follow.proofs.Tries.{may_begin}
 use Rattle.cv_follow.proofs.walk.follow.Goals.{in-None, in-Some}
@@ -52,11 +52,11 @@ returns-in-Err-go_on g c =
     let first = tree_at fn.pool.trees (Some c.args.game.root) in
     let n = c.go_on.new in
     let at : length fn.pool.trees ≤ c.mark-mark.result.0 = omega (arith, c.mark-mark.ensures) in
-    walk_spent (length fn.pool.trees) fn n.work first (trees_of fn.pool.trees c.args.script.now) (asked fn) _ c.spent.result
+    walk_out_of_memory (length fn.pool.trees) fn n.work first (trees_of fn.pool.trees c.args.script.now) (asked fn) _ c.out_of_memory.result
     (following_cut fn l.work first c.args.script.now c.requires.below c.requires.steps.live l.step-index _ c.steps-test.true l.sequence (g.K.Sink.taken c.args.sink.now) (g.K.Sink.taken l.sink) (g.K.Sink.faults c.args.sink.now) (g.K.Sink.faults l.sink) c.args.stream.now l.stream i.following
     c.push.new.work c.push.new.self _ c.in-Ok.ensures.pushed c.push.ensures.grows i.stands.live c.in-Ok.ensures.few c.push.ensures.names c.push.ensures.decls c.in-Ok.ensures.drawn c.push.ensures.alone
     c.mark-mark.result.0 at n.work (g.K.Sink.taken n.sink) (g.K.Sink.faults n.sink) n.stream c.go_on.ensures.stays c.go_on.ensures.names c.go_on.ensures.decls c.in-Err-go_on.ensures.cut)
-    c.spent.ensures.status c.spent.ensures.verdicts
+    c.out_of_memory.ensures.status c.out_of_memory.ensures.verdicts
 
 pub returns-in-Err : goal.returns-in-Err
 returns-in-Err g c =
@@ -73,11 +73,11 @@ returns-in-Err g c =
     elim c.match-stop_of.branch [
       | in-Some w ↦ subst Walks (sym w.result-is)
           (following_stops fn l.work first c.args.script.now c.requires.below c.requires.steps.live l.step-index _ c.steps-test.true l.sequence (g.K.Sink.taken c.args.sink.now) (g.K.Sink.taken l.sink) (g.K.Sink.faults c.args.sink.now) (g.K.Sink.faults l.sink) c.args.stream.now l.stream i.following
-          new c.push.new.self c.in-Err.fault w.in-Some.status w.stopped.result c.push.ensures.grows c.in-Err.ensures.kept (gone.grows.limit ∙ c.requires.limit) c.in-Err.ensures.pushed (ap (stop_of c.in-Err.fault) count ∙ sym w.in-Some.ensures) i.stands.live
-          same.game same.steps same.sum same.closed c.in-Err.ensures.back c.push.ensures.decls w.stopped.ensures)
+          new c.push.new.self c.in-Err.fault w.in-Some.status w.walk_with_status.result c.push.ensures.grows c.in-Err.ensures.kept (gone.grows.limit ∙ c.requires.limit) c.in-Err.ensures.pushed (ap (stop_of c.in-Err.fault) count ∙ sym w.in-Some.ensures) i.stands.live
+          same.game same.steps same.sum same.closed c.in-Err.ensures.back c.push.ensures.decls w.walk_with_status.ensures)
       | in-None w ↦ subst Walks (sym w.result-is)
-          (walk_spent (length fn.pool.trees) fn new first (trees_of fn.pool.trees c.args.script.now) (asked fn) Puts w.spent-in-None.result
-          (reached_so_far fn l.work first l.sequence gone new Puts (record { grows = c.push.ensures.grows; names = c.push.ensures.names; decls = c.push.ensures.decls }) i.following.puts) w.spent-in-None.ensures.status w.spent-in-None.ensures.verdicts)
+          (walk_out_of_memory (length fn.pool.trees) fn new first (trees_of fn.pool.trees c.args.script.now) (asked fn) Puts w.out_of_memory-in-None.result
+          (reached_so_far fn l.work first l.sequence gone new Puts (record { grows = c.push.ensures.grows; names = c.push.ensures.names; decls = c.push.ensures.decls }) i.following.puts) w.out_of_memory-in-None.ensures.status w.out_of_memory-in-None.ensures.verdicts)
     ]
 
 pub steps-preserved : goal.steps-preserved
@@ -114,4 +114,4 @@ returns g c =
     let first = tree_at fn.pool.trees (Some c.args.game.root) in
     let trees = fn.pool.trees in
     let all = ap (trees_of trees) (sym (take_all l.step-index c.args.script.now (omega (arith, c.steps-test.false)))) in
-    walk_ends fn l.work first (trees_of trees (take l.step-index c.args.script.now)) l.sequence gone _ i.following.puts c.finished.result (trees_of trees c.args.script.now) all c.finished.ensures
+    walk_ends fn l.work first (trees_of trees (take l.step-index c.args.script.now)) l.sequence gone _ i.following.puts c.walk_to_end.result (trees_of trees c.args.script.now) all c.walk_to_end.ensures

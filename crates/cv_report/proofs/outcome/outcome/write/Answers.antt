@@ -32,5 +32,5 @@ returns-clause-written g c =
     let now = g.K.Sink.taken c.close.new.sink in
     let new = g.K.Sink.faults c.close.new.sink in
     let lines = shown_text (is_shown r) l in
-    spent_ends r c.spent.result l before now old new c.spent.ensures
+    spent_ends r c.out_of_memory.result l before now old new c.out_of_memory.ensures
     (subst (λ f. IsClosed f before now old new lines (rest_text r)) (sym c.flow.ensures ∙ c.in-Spent.is) (c.close.ensures.put before old lines (rest_text r) c.rest_text.ensures h.later h.put))
