@@ -21,6 +21,7 @@ ghost use Rattle.cv_scene.specs.lines.Lines.{lines_of, statements};
 ghost use Rattle.cv_scene.specs.Reasons as reasons;
 ghost use Rattle.cv_derive_lines.specs.Views.{IsClaimBelow, statement_of};
 ghost use Rattle.cv_derive_lines.specs.citing.Bookmarks.{AreLines, Serves};
+ghost use Rattle.cv_derive_reasons.specs.sizes.Sizes.{AreSizes};
 ghost use Rattle.cv_derive.specs.Searching.{first_bad_in};
 ghost use Rattle.cv_derive.specs.Seen.{IsAssumedBelow, Sees, assumed_of, sight_of, trees_of, visible_of};
 ghost use Rattle.cv_derive.specs.Verdicts.{verdict_of};
@@ -165,11 +166,12 @@ pub(crate) fn first_bad(
 }
 
 /// Checks that a derivation at a place of a game derives the targets: each line is right, and the last lines outside blocks are
-/// the targets. It takes no memory.
+/// the targets. The sizes that are known save counting. It takes no memory.
 pub fn check(
     work: &Work,
     game: Game,
     arrays: &Arrays,
+    sizes: &Sizes,
     above: &HashMap<u32, Sort>,
     replications: &[(u32, u32)],
     place: u32,
@@ -191,6 +193,7 @@ pub fn check(
     requires entries { IfSome (directory_in arrays.now) (λ d. entries_in work.now.pool.trees d
         ≡ entries_of (large_in work.now.decls.list)
         (tree_at work.now.pool.trees (Some game.root))) }
+    requires sizes { AreSizes work.now.pool.trees sizes.now }
     requires above { above_of above.now
         ≡ above_at (scene_of work.now.pool work.now.decls game.root) place }
     requires replications { replications.now
@@ -210,14 +213,13 @@ pub fn check(
         × (ends_so (tree_at work.now.pool.trees by) (tree_at work.now.pool.trees targets)
         ≡ false)) }
 {
-    let sizes = Sizes::of(&work.pool, game.root);
     let sight = Sight {
         work,
         game,
         arrays,
         above,
         replications,
-        sizes: &sizes,
+        sizes,
         place,
         second: None,
         lines: by,

@@ -7,8 +7,7 @@ ghost use Rattle.cv_query_parts.specs.Said.{IsRouteBelow, atom_seen, way_seen};
 ghost use Rattle.cv_query_parts.specs.Views.{IsReady, game_of, trees_of};
 ghost use Rattle.cv_query.specs.Claimed.{derived_by};
 
-use cv_query_parts::{Atom, Route, View};
-use cv_scene_view::part_at;
+use cv_query_parts::{Atom, Route, View, node_at};
 use cv_syntax::NodeId;
 use cv_syntax::children::first_of;
 
@@ -47,5 +46,5 @@ pub(crate) fn arguments_at(view: &View, place: u64) -> Option<NodeId>
         return None;
     }
     let pool = &view.work.pool;
-    first_of(pool, part_at(pool, view.game, place as u32))
+    first_of(pool, node_at(view, place as u32))
 }

@@ -18,9 +18,9 @@ ghost use Rattle.cv_query_parts.specs.Said.{saying_of};
 use crate::claims::derivation_of;
 use cv_derive::{DeriveFault, check};
 use cv_query_parts::{
-    Asked, Entry, NumberedAtom, View, atom_of, choice_of, chosen_atoms, entry_of, route_of,
+    Asked, Entry, NumberedAtom, View, atom_of, choice_of, chosen_atoms, entry_of, indices_at,
+    replications_at, route_of,
 };
-use cv_scene_view::{indices_at, replications_at};
 use cv_syntax::{Game, NodeId, read_node};
 use cv_syntax_trees::sites::Sort;
 use std::alloc::{AllocError, Global};
@@ -43,7 +43,17 @@ fn bad_line(
         (tree_at (trees_of view.now) by) }
 {
     let game = Game { root: view.game };
-    match check(view.work, game, view.arrays, above, rows, place, by, None) {
+    match check(
+        view.work,
+        game,
+        view.arrays,
+        view.sizes,
+        above,
+        rows,
+        place,
+        by,
+        None,
+    ) {
         Err(DeriveFault::LineBad(n)) => Some(n),
         _ => None,
     }
@@ -123,8 +133,8 @@ fn has_right_lines(
         (entry_claims (scene_of view.now) (asked_of (trees_of view.now) asked.now) place
         (tree_at (trees_of view.now) part))) }
 {
-    let above = indices_at(alloc, view.work, view.game, place)?;
-    let replications = replications_at(alloc, view.work, view.game, place)?;
+    let above = indices_at(alloc, view, place)?;
+    let replications = replications_at(alloc, view, place)?;
     let rows = replications.as_slice();
     match entry_of(&view.work.pool, part) {
         Entry::Never { by, .. } => Ok(is_right(view, &above, rows, place, by)),

@@ -22,6 +22,7 @@ use crate::ends::first_unfinished;
 use crate::pairs::{first_unfit_name, first_wrong_pair, first_wrong_secret};
 use crate::right::first_wrong;
 use crate::secrets::{Secrecy, failed, secret_checked};
+use cv_derive_reasons::sizes::Sizes;
 use cv_query_entries::terms::right_alone;
 use cv_query_entries::{event_places, first_unformed};
 use cv_query_parts::pairs::{Walked, behind_entries, names_in, rest_of as rest_in, walk_pairs};
@@ -329,7 +330,13 @@ pub fn check(
     ensures names { work.new.names ≡ work.old.names }
     ensures decls { work.new.decls ≡ work.old.decls }
 {
-    let view = View { work, game, arrays };
+    let sizes = Sizes::of(&work.pool, game);
+    let view = View {
+        work,
+        game,
+        arrays,
+        sizes: &sizes,
+    };
     match entries_checked(alloc, &view, query, certificate)? {
         Outcome::Decided(failure) => Ok(failure),
         Outcome::Open(left) => left_checked(alloc, work, game, arrays, left),

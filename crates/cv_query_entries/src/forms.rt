@@ -18,10 +18,9 @@ use crate::nodes::{are_as_many, is_event_above};
 use cv_derive_lines::Claim;
 use cv_derive_lines::terms::{is_term_of, is_typed_claim};
 use cv_query_parts::{
-    Asked, Atom, Entry, NumberedAtom, Route, View, atom_of, choice_of, chosen, entry_of, is_number,
-    route_of, surplus_entry,
+    Asked, Atom, Entry, NumberedAtom, Route, View, atom_of, choice_of, chosen, entry_of,
+    indices_at, is_number, node_at, route_of, surplus_entry,
 };
-use cv_scene_view::{indices_at, part_at};
 use cv_syntax::children::{first_of, is_empty};
 use cv_syntax::{NodeId, read_node};
 use cv_syntax_trees::sites::Sort;
@@ -44,7 +43,7 @@ fn is_above_site(
         (only_site (game_of view.now) (tree_at (trees_of view.now) cell)) }
 {
     match site_place(view, cell) {
-        Some(site) => is_event_above(&view.work.pool, view.game, event, terms, place, site),
+        Some(site) => is_event_above(view, event, terms, place, site),
         None => false,
     }
 }
@@ -98,9 +97,7 @@ fn has_route_form(
             arguments,
             ..
         } => match route {
-            Route::Above { place: q, .. } => {
-                is_event_above(&view.work.pool, view.game, event, arguments, q, place)
-            }
+            Route::Above { place: q, .. } => { is_event_above(view, event, arguments, q, place) }
             Route::Cell { cell, place: q, .. } => {
                 is_cell_at(view, above, place, cell)
                     && is_above_site(view, event, arguments, q, cell)
@@ -217,11 +214,11 @@ fn has_with_form(
         (tree_at (trees_of view.now) witnesses) (tree_at (trees_of view.now) choice)) }
 {
     let pool = &view.work.pool;
-    let arguments = first_of(pool, part_at(pool, view.game, place));
+    let arguments = first_of(pool, node_at(view, place));
     if !are_as_many(pool, asked.variables, arguments) {
         return Ok(false);
     }
-    let above = indices_at(alloc, view.work, view.game, place)?;
+    let above = indices_at(alloc, view, place)?;
     if !have_types(view, &above, place, asked.others, witnesses) {
         return Ok(false);
     }

@@ -4,9 +4,13 @@ ghost use Rattle.cv_syntax_trees.specs.Head as head;
 ghost use Rattle.cv_syntax_trees.specs.Tree.{Node, size};
 ghost use Rattle.cv_syntax.specs.PoolTrees.{tree_at};
 ghost use Rattle.cv_query_certificates.specs.EventNodes as certificates;
+ghost use Rattle.cv_derive_reasons.specs.sizes.Sizes.{AreSizes};
+ghost use Rattle.cv_query_parts.specs.Views.{IsReady, game_of, trees_of};
 ghost use Rattle.cv_query_entries.specs.Nodes.{places_here};
 
-use cv_path::{Lies, at, place_in, size_below};
+use cv_derive_reasons::sizes::{Sizes, place_in};
+use cv_path::Lies;
+use cv_query_parts::{View, node_at};
 use cv_syntax::children::is_empty;
 use cv_syntax::{Head, NodeId, Opened, Pool, read_node};
 use std::alloc::{AllocError, Global};
@@ -94,7 +98,15 @@ pub(crate) fn are_as_many(pool: &Pool, left: Option<NodeId>, right: Option<NodeI
 
 /// Whether a place lies behind an event's node with so many arguments, where it is so far from the node's place.
 #[tactic(auto, using(crate::proofs::Places::places))]
-fn is_behind(pool: &Pool, node: Opened, event: u32, terms: Option<NodeId>, distance: u32) -> bool
+fn is_behind(
+    pool: &Pool,
+    sizes: &Sizes,
+    node: Opened,
+    event: u32,
+    terms: Option<NodeId>,
+    distance: u32,
+) -> bool
+    requires sizes { AreSizes pool.now.trees sizes.now }
     requires first { ChildBelow (length pool.now.trees) node.first }
     requires second { ChildBelow (length pool.now.trees) node.second }
     requires terms { ChildBelow (length pool.now.trees) terms }
@@ -113,8 +125,8 @@ fn is_behind(pool: &Pool, node: Opened, event: u32, terms: Option<NodeId>, dista
     if !are_as_many(pool, node.first, terms) {
         return false;
     }
-    match place_in(pool, node, distance) {
-        Lies::Behind(rest) => rest < size_below(pool, node.second),
+    match place_in(pool, sizes, node, distance) {
+        Lies::Behind(rest) => rest < sizes.size(pool, node.second),
         Lies::Here => false,
         Lies::Within(_) => false,
     }
@@ -122,27 +134,20 @@ fn is_behind(pool: &Pool, node: Opened, event: u32, terms: Option<NodeId>, dista
 
 /// Whether an event's node with so many arguments stands at a place of a game, above another place.
 #[tactic(auto, using(crate::proofs::Places::places))]
-pub fn is_event_above(
-    pool: &Pool,
-    game: NodeId,
-    event: u32,
-    terms: Option<NodeId>,
-    q: u64,
-    place: u32,
-) -> bool
-    requires live { game.0 < length pool.now.trees }
-    requires fits { size (tree_at pool.now.trees (Some game)) < 2 ^ 32 }
-    requires terms { ChildBelow (length pool.now.trees) terms }
-    ensures { result ≡ certificates.is_event_above (tree_at pool.now.trees (Some game)) event
-        (tree_at pool.now.trees terms) q place }
+pub fn is_event_above(view: &View, event: u32, terms: Option<NodeId>, q: u64, place: u32) -> bool
+    requires ready { IsReady view.now }
+    requires terms { ChildBelow (length (trees_of view.now)) terms }
+    ensures { result ≡ certificates.is_event_above (game_of view.now) event
+        (tree_at (trees_of view.now) terms) q place }
 {
     if q > place as u64 {
         return false;
     }
     let above = q as u32;
-    let Some(n) = at(pool, game, above) else {
+    let Some(n) = node_at(view, above) else {
         return false;
     };
+    let pool = &view.work.pool;
     let node = read_node(pool, n);
-    is_behind(pool, node, event, terms, place - above)
+    is_behind(pool, view.sizes, node, event, terms, place - above)
 }

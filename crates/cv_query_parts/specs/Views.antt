@@ -15,6 +15,7 @@ use Rattle.cv_scope_rules.specs.typing.Signature.{OfGame}
 use Rattle.cv_typing.specs.Tables.{arrays_of, directory_in}
 use Rattle.cv_typing.specs.declared.arrays.Arrays.{Arrays}
 use Rattle.cv_scope_rules.specs.Phrases.{IsWellFormed}
+use Rattle.cv_derive_reasons.specs.sizes.Sizes.{AreSizes}
 use Rattle.cv_meaning.specs.Correspondences.{Correspondence, leaf_names}
 use Rattle.cv_query_parts.specs.Alternatives.{AreAlternativesBelow, alternatives_seen}
 use Rattle.cv_scene.specs.Scenes.{Scene}
@@ -40,8 +41,10 @@ pub record IsReadyIn (trees : List KindTree) (ds : List Decl) (game : NodeId) (h
   pub arrays : arrays_of held ≡ OfGame (sites_of (tree_at trees (Some game)))
   pub entries : IfSome (directory_in held) (λ d. entries_in trees d ≡ entries_of (large_in ds) (tree_at trees (Some game)))
 
-abbrev pub IsReady : View → Type 0
-IsReady v = IsReadyIn (trees_of v) v.work.now.decls.list v.game v.arrays.now
+-- so it is in a view, whose sizes are those of its trees
+pub record IsReady (v : View) : Type 0 where
+  pub game : IsReadyIn (trees_of v) v.work.now.decls.list v.game v.arrays.now
+  pub sizes : AreSizes (trees_of v) v.sizes.now
 
 abbrev pub asked_of : List KindTree → Asked → Correspondence
 asked_of trees a = record {

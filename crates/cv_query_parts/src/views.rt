@@ -7,15 +7,17 @@ ghost use Rattle.cv_query_parts.specs.Said.{IsAtomBelow, IsEntryBelow, IsRouteBe
 
 use crate::alternatives::NumberedAtom;
 use crate::parts::place_in;
+use cv_derive_reasons::sizes::Sizes;
 use cv_syntax::{Head, NodeId, Pool, Work, read_node};
 use cv_typing::Arrays;
 
-/// A game in which certificates are read, with the arrays of its variables.
+/// A game in which certificates are read, with the arrays of its variables and sizes in it.
 #[derive(Clone, Copy)]
 pub struct View<'a> {
     pub work: &'a Work,
     pub game: NodeId,
     pub arrays: &'a Arrays,
+    pub sizes: &'a Sizes,
 }
 
 /// A correspondence: its left event with the list of its variables, the variables on the right alone with their types, and the

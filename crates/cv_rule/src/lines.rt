@@ -8,6 +8,7 @@ ghost use Rattle.cv_rule.specs.Prepared.{IsPrepared};
 ghost use Rattle.cv_rule.specs.Stated.{IsLiveDerivation};
 
 use cv_derive::{DeriveFault, check};
+use cv_derive_reasons::sizes::Sizes;
 use cv_scene_view::{indices_at, replications_at};
 use cv_syntax::{Game, NodeId, Work};
 use cv_typing::Arrays;
@@ -36,6 +37,7 @@ pub(crate) fn bad_line(
         work,
         Game { root: game },
         arrays,
+        &Sizes::of(&work.pool, game),
         &above,
         rows,
         place,

@@ -35,6 +35,7 @@ use crate::putting::add_with_terms;
 use crate::targets::{Given, claims, end_with, wanted_equations, wanted_guards};
 use cv_costs::names::{is_one_queried, own_names};
 use cv_derive::{DeriveFault, check};
+use cv_derive_reasons::sizes::Sizes;
 use cv_directory::Directory;
 use cv_edit_places::{Change, Failure, Parts};
 use cv_path::size_below;
@@ -90,6 +91,7 @@ fn bad_line(
         work,
         Game { root: game },
         arrays,
+        &Sizes::of(&work.pool, game),
         &above,
         rows,
         place,

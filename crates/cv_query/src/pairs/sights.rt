@@ -1,41 +1,16 @@
-ghost use Rattle.std.specs.Prelude.{◌≡◌, ◌++◌, ◌<◌, ◌^◌, IfOk, OnOk, Some, length};
+ghost use Rattle.std.specs.Prelude.{◌≡◌, ◌++◌, ◌<◌, ◌^◌, IfOk, Some, length};
 ghost use Rattle.cv_syntax_trees.specs.Tree.{size};
 ghost use Rattle.cv_syntax.specs.PoolTrees.{tree_at};
-ghost use Rattle.cv_syntax_trees.specs.declared.sites.sort.Sort.TheVariants.{BelowParameter};
-ghost use Rattle.cv_scope_rules.specs.declared.typing.precedence.Precedence.TheVariants.{First};
-ghost use Rattle.cv_scope_rules.specs.typing.Wants.{bound};
 ghost use Rattle.cv_typing.specs.Tables.{above_of};
-ghost use Rattle.cv_scene.specs.Terms.{above_under, indices_above, replications_at};
+ghost use Rattle.cv_scene.specs.Terms.{above_under, replications_at};
 ghost use Rattle.cv_scene_view.specs.Kept.{scene_of};
 
+use cv_query_parts::add_indices;
 use cv_scene_view::indices_at;
 use cv_syntax::{NodeId, Work};
 use cv_syntax_trees::sites::Sort;
 use std::alloc::{AllocError, Global};
 use std::collections::HashMap;
-
-/// Notes an index with its parameter, unless its name is there.
-fn add_index(above: &mut HashMap<u32, Sort>, i: u32, n: u32) -> Result<(), AllocError>
-    ensures { OnOk result (above_of above.new
-        ≡ bound First (above_of above.old) i (BelowParameter n)) }
-{
-    if above.contains_key(&i) {
-        return Ok(());
-    }
-    above.insert(i, Sort::BelowParameter(n))?;
-    Ok(())
-}
-
-/// Notes indices with their parameters, unless their names are there.
-fn add_indices(above: &mut HashMap<u32, Sort>, rows: &[(u32, u32)]) -> Result<(), AllocError>
-    ensures { OnOk result (above_of above.new ≡ indices_above (above_of above.old) rows.now) }
-{
-    'rows: for k in 0..rows.len() {
-        let row = rows[k];
-        add_index(above, row.0, row.1)?;
-    }
-    Ok(())
-}
 
 /// The sorts of the indices of the replications above a place, and of those of a second copy.
 pub(crate) fn indices_of_pair(

@@ -15,4 +15,4 @@ returns-in_default c =
 pub returns : goal.returns
 returns c =
     let v = c.args.view.now in
-    told_place (declarations (trees_of v) v.work.now.decls.list) (large_in v.work.now.decls.list) (game_of v) (entries_in (trees_of v) c.args.directory.now) c.requires.ready.formed c.requires.entries (tree_at (trees_of v) c.args.cell) c.in-Some.x (sym c.in-Some.is ∙ c.variable.ensures) c.only_definition.result (c.only_definition.ensures (trees_of v))
+    told_place (declarations (trees_of v) v.work.now.decls.list) (large_in v.work.now.decls.list) (game_of v) (entries_in (trees_of v) c.args.directory.now) c.requires.ready.game.formed c.requires.entries (tree_at (trees_of v) c.args.cell) c.in-Some.x (sym c.in-Some.is ∙ c.variable.ensures) c.only_definition.result (c.only_definition.ensures (trees_of v))

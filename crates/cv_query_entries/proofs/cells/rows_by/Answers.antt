@@ -18,7 +18,7 @@ pub returns-in_default-only_definition : goal.returns-in_default-only_definition
 returns-in_default-only_definition c =
     let v = c.args.view.now in
     c.new-rows.ensures.items
-    ∙ told_nothing (declarations (trees_of v) v.work.now.decls.list) (large_in v.work.now.decls.list) (game_of v) (entries_in (trees_of v) c.args.directory.now) c.requires.ready.formed c.requires.entries (tree_at (trees_of v) c.args.cell) c.in-Some.x (sym c.in-Some.is ∙ c.variable.ensures) (sym c.in_default-only_definition.is ∙ c.only_definition.ensures (trees_of v))
+    ∙ told_nothing (declarations (trees_of v) v.work.now.decls.list) (large_in v.work.now.decls.list) (game_of v) (entries_in (trees_of v) c.args.directory.now) c.requires.ready.game.formed c.requires.entries (tree_at (trees_of v) c.args.cell) c.in-Some.x (sym c.in-Some.is ∙ c.variable.ensures) (sym c.in_default-only_definition.is ∙ c.only_definition.ensures (trees_of v))
 
 pub rows-init : goal.rows-init
 rows-init c =
@@ -48,4 +48,4 @@ returns c =
     let o = (entries_in (trees_of v) c.args.directory.now).first c.in-Some.x in
     c.rows.invariant.kept
     ∙ (no_row o (vec_len c.rows.rows) (sym c.in_default-replication.is ∙ (c.replication.ensures (trees_of v) ∙ ap (row o) c.len.ensures))
-    ∙ told_rows (declarations (trees_of v) v.work.now.decls.list) (large_in v.work.now.decls.list) (game_of v) (entries_in (trees_of v) c.args.directory.now) c.requires.ready.formed c.requires.entries (tree_at (trees_of v) c.args.cell) c.in-Some.x (sym c.in-Some.is ∙ c.variable.ensures) c.in-Some-only_definition._site (sym c.in-Some-only_definition.is ∙ c.only_definition.ensures (trees_of v)))
+    ∙ told_rows (declarations (trees_of v) v.work.now.decls.list) (large_in v.work.now.decls.list) (game_of v) (entries_in (trees_of v) c.args.directory.now) c.requires.ready.game.formed c.requires.entries (tree_at (trees_of v) c.args.cell) c.in-Some.x (sym c.in-Some.is ∙ c.variable.ensures) c.in-Some-only_definition._site (sym c.in-Some-only_definition.is ∙ c.only_definition.ensures (trees_of v)))

@@ -2,7 +2,7 @@ use Rattle.std.proofs.Common.{◌+◌, drop, ap, sym, ◌∙◌, arith}
 use Rattle.std.proofs.lemmas.List.{at_drop_more}
 use Rattle.cv_typing.specs.Tables.{above_of}
 use Rattle.cv_scene.specs.Terms.{indices_above}
-use Rattle.cv_query.proofs.pairs.sights.add_indices.Goals as goal
+use Rattle.cv_query_parts.proofs.places.add_indices.Goals as goal
 
 pub rows-preserved : goal.rows-preserved
 rows-preserved c =
