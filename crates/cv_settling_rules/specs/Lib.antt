@@ -8,4 +8,7 @@ pub mod Assignments
 pub mod Equations
 pub mod Comparisons
 pub mod Order
+pub mod Lines
+pub mod Reasons
+pub mod Rewritings
 pub mod Worked

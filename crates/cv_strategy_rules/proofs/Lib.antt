@@ -1,2 +1,4 @@
+mod Counted
+mod Demanding
 mod Placed
 mod Refuted

@@ -39,10 +39,10 @@ unfolding below_by
 same_below σ (Read x) = refl
 same_below σ h = refl
 
-same_parts : (σ : Phrase) (h : Head) → parts_below σ h ≡ parts_of σ h
+pub same_parts : (σ : Phrase) (h : Head) → parts_below σ h ≡ parts_of σ h
 same_parts σ h = same_below σ h ∙ same_by h (parts σ h)
 
-same_term : (σ : Phrase) → rewriting.is_term σ ≡ is_term σ
+pub same_term : (σ : Phrase) → rewriting.is_term σ ≡ is_term σ
 same_term Term = refl
 same_term σ = refl
 
@@ -111,7 +111,7 @@ same_both : (x : ℕ) (t : Tree) → compares_both x t ≡ is_comparison x t
 same_both x (Node Eq m n) = refl
 same_both x t = refl
 
-same_one : (x : ℕ) (t : Tree) → compares_one x t ≡ compares x t
+pub same_one : (x : ℕ) (t : Tree) → compares_one x t ≡ compares x t
 same_one x (Node Eq m n) = ap₂ ◌||◌ (same_read x m) (same_read x n)
 same_one x t = refl
 

@@ -19,17 +19,17 @@ use Rattle.cv_settling_rules.specs.Measure.{lowers}
 use Rattle.cv_strategy_rules.specs.Legal.{LeadsTo}
 use Rattle.cv_strategy_rules.specs.Settling.{Settles, step_of}
 
-conflict : (c p : ℕ) (next : Tree) (cost : Cost) → Fails c p ≡ Leads next cost → ⊥
+pub conflict : (c p : ℕ) (next : Tree) (cost : Cost) → Fails c p ≡ Leads next cost → ⊥
 conflict c p next cost e = cc
 
 one_game : (a b : Tree) (c d : Cost) → Leads a c ≡ Leads b d → a ≡ b
 one_game a b c d e = cc
 
-unless_leads : (b : Bool) (c p : ℕ) (rest : Row) (next : Tree) (cost : Cost) → unless b c p rest ≡ Leads next cost → rest ≡ Leads next cost
+pub unless_leads : (b : Bool) (c p : ℕ) (rest : Row) (next : Tree) (cost : Cost) → unless b c p rest ≡ Leads next cost → rest ≡ Leads next cost
 unless_leads true c p rest next cost e = e
 unless_leads false c p rest next cost e = absurd (conflict c p next cost e)
 
-unless_at_leads : (c : ℕ) (o : Option ℕ) (rest : Row) (next : Tree) (cost : Cost) → unless_at c o rest ≡ Leads next cost → rest ≡ Leads next cost
+pub unless_at_leads : (c : ℕ) (o : Option ℕ) (rest : Row) (next : Tree) (cost : Cost) → unless_at c o rest ≡ Leads next cost → rest ≡ Leads next cost
 unless_at_leads c None rest next cost e = e
 unless_at_leads c (Some p) rest next cost e = absurd (conflict c p next cost e)
 

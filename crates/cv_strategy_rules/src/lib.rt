@@ -1,19 +1,23 @@
 // Which step comes next where steps are looked for: the one that settles the game, one that closes a query, or a move.
 #![tactic(auto)]
 
-ghost use Rattle.std.specs.Prelude.{◌≡◌, ℕ, List, ◌∷◌, []};
+ghost use Rattle.std.specs.Prelude.{◌≡◌, ℕ, List, ◌∷◌, [], None, length, true};
 ghost use Rattle.cv_syntax_trees.specs.Tree.{Tree};
+ghost use Rattle.cv_scope_rules.specs.Phrases.{Inputs, is_phrase};
 ghost use Rattle.cv_scene.specs.Pruning.{Else, Part};
 ghost use Rattle.cv_scene.specs.Scenes.{Scene};
 ghost use Rattle.cv_steps.specs.Changes.{change_at, without_body};
 ghost use Rattle.cv_steps.specs.Elementary.{prune_step, rewrite_step};
-ghost use Rattle.cv_settling_rules.specs.Candidates.{Fresh, Guess, Merge, Prune, Rewrite, Unlet, Unnew};
+ghost use Rattle.cv_rule_birthday.specs.guess.Guessing.{first_other_read};
+ghost use Rattle.cv_settling_rules.specs.Candidates.{Candidate, Fresh, Guess, Merge, Prune, Rewrite, Unlet, Unnew};
 ghost use Rattle.cv_settling_rules.specs.Comparisons.{compares_both, compares_one, is_equality, places_of};
+ghost use Rattle.cv_settling_rules.specs.Variables.{reads_of};
 ghost use Rattle.cv_settling_rules.specs.Worked.{image, own};
 ghost use Rattle.cv_strategy_rules.specs.Coming.{ComesNext, IsStuck, IsTried, Kind};
+ghost use Rattle.cv_strategy_rules.specs.Demands.{Demands};
 ghost use Rattle.cv_strategy_rules.specs.Legal.{LeadsTo};
 ghost use Rattle.cv_strategy_rules.specs.Places.{compared_places, equality_places, guessed_places};
-ghost use Rattle.cv_strategy_rules.specs.Settling.{IsFirst, IsSettled};
+ghost use Rattle.cv_strategy_rules.specs.Settling.{IsFirst, IsSettled, Settles};
 ghost use Rattle.cv_strategy_rules.specs.Worked.{alike, asked, at_rest, certain, guessing, read_once, shorter, unused};
 
 /// What comes next is tried: nothing that comes next stands before it.
@@ -36,12 +40,28 @@ pub fn pruning_leads_to_one_game()
         next ≡ change_at s.game place (without_body place part) }
 {}
 
+/// What a step that settles a game asks of it: a candidate for which it isn't so may be left out.
+pub fn settling_steps_demand()
+    ensures { (s : Scene) (c : Candidate) → Settles s c → Demands s c }
+{}
+
 /// The places of candidates that rest on collisions are those at which the rules' own conditions hold.
 pub fn places_are_those_of_the_rules()
     ensures birthday { (game : Tree) (x : ℕ) → places_of (compares_both x) game
         ≡ compared_places x game }
     ensures guess { (game : Tree) (x : ℕ) → places_of (compares_one x) game ≡ guessed_places x game }
     ensures fresh { (game : Tree) → places_of is_equality game ≡ equality_places game }
+{}
+
+/// A variable is read in equalities alone exactly where as many of them have a side that reads it as there are reads: what can be
+/// counted along one walk is what `guess` asks.
+pub fn reads_in_equalities_are_counted()
+    ensures alone { (game : Tree) (x : ℕ) → is_phrase Inputs game ≡ true →
+        length (places_of (compares_one x) game) ≡ reads_of game x →
+        first_other_read (places_of (compares_one x) game) x game ≡ None }
+    ensures counted { (game : Tree) (x : ℕ) → is_phrase Inputs game ≡ true →
+        first_other_read (places_of (compares_one x) game) x game ≡ None →
+        length (places_of (compares_one x) game) ≡ reads_of game x }
 {}
 
 /// The steps that settle small games: a body that is not reached, a test with equal bodies, a value that nothing names, a `let` that is

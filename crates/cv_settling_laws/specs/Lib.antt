@@ -1,0 +1,3 @@
+pub mod Games
+pub mod Refusals
+pub mod Rewritings

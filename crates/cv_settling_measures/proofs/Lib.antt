@@ -1,0 +1,9 @@
+pub mod Nodes
+pub mod Sites
+pub mod Equalities
+pub mod Names
+pub mod Dropping
+pub mod Agreeing
+pub mod Pruning
+pub mod Orphaned
+pub mod Rewriting

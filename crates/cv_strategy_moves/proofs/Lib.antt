@@ -1,0 +1,11 @@
+mod Tests
+mod Advising
+mod Demanding
+mod Unfixed
+mod Chosen
+mod Choosing
+mod Open
+mod Matched
+mod Shorter
+mod Outside
+mod Given
