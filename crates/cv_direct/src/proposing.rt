@@ -13,6 +13,7 @@ use crate::pruning::{Unreached, first_unreached};
 use cv_closure::Theory;
 use cv_direct_search::{Effort, direct};
 use cv_grounds::{Side, Survey, theory_of};
+use cv_settling_lateness::Lateness;
 use cv_step_writer::{Body, Proposal};
 use cv_syntax::{Decls, Game, NodeId, Pool, PoolError};
 use std::alloc::{AllocError, Global};
@@ -20,11 +21,12 @@ use std::alloc::{AllocError, Global};
 /// How much effort is taken in one game.
 const MOST_EFFORT: u32 = 3_000_000;
 
-/// What searches in one game share: its survey, what the file declares, and how much effort they may still take together, those that
-/// need pairs for themselves.
+/// What searches in one game share: its survey, which of its variables come later than a place, what the file declares, and how much
+/// effort they may still take together, those that need pairs for themselves.
 #[derive(Drop)]
 pub struct Proposer {
     survey: Survey,
+    lateness: Lateness,
     theory: Theory,
     effort: Effort,
     by_pairs: Effort,
@@ -63,6 +65,7 @@ impl Proposer {
     ) -> Result<Proposer, AllocError> {
         Ok(Proposer {
             survey: Survey::of(alloc, pool, Game { root: game })?,
+            lateness: Lateness::of(alloc, pool, game)?,
             theory: theory_of(alloc, pool, decls)?,
             effort: Effort { left: MOST_EFFORT },
             by_pairs: Effort { left: MOST_EFFORT },
@@ -85,6 +88,7 @@ impl Proposer {
             alloc,
             pool,
             &self.survey,
+            &self.lateness,
             &self.theory,
             query,
             &mut self.effort,

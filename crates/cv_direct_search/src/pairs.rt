@@ -47,19 +47,13 @@ pub(crate) struct Pairing {
 
 /// What a pair's derivation is to end with. At one place: all indices are equal. In two bodies of one construct: there are no such
 /// copies, or else the indices of the construct are equal. In all other cases there are no such copies.
-fn targets(
-    scene: Scene,
-    copies: &Copies,
-    p: u32,
-    q: u32,
-    effort: &mut Effort,
-) -> Result<Vec<Target>, AllocError> {
+fn targets(scene: Scene, copies: &Copies, p: u32, q: u32) -> Result<Vec<Target>, AllocError> {
     let mut targets = Vec::new(scene.alloc);
     let mut count = None;
     if p == q {
         count = Some(usize::MAX);
     } else if !copies.closure().is_contradictory() {
-        let parting = scene.survey.lateness().parting(p, q, &mut effort.left);
+        let parting = scene.lateness.parting(scene.pool, p, q);
         count = parting.map(|n| n as usize);
     }
     let Some(count) = count else {
@@ -93,7 +87,7 @@ fn derive_pair(
     )?;
     copies.give(scene.alloc, scene.theory, end, other_end)?;
     effort.left = copies.closure().effort();
-    let targets = targets(scene, &copies, left.place, other.place, effort)?;
+    let targets = targets(scene, &copies, left.place, other.place)?;
     if effort.left == 0 {
         return Ok(None);
     }

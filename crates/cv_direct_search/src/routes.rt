@@ -7,18 +7,20 @@ use cv_closure::{TermId, Theory};
 use cv_closure_lines::{
     Claim, Derivation, MOST_LINES, Target, all_follow, copied, derive, derive_late,
 };
-use cv_grounds::{End, Given, Grounds, Known, Link, Survey, items, open, translate};
+use cv_grounds::{CurrentCell, End, Given, Grounds, Known, Link, Survey, items, open, translate};
+use cv_settling_lateness::Lateness;
 use cv_syntax::{Head, NodeId, Pool};
 use std::alloc::{AllocError, Global};
 
-/// What a search from a place of the left event reads: the pool, the survey of the game, what the file declares, the query, what is known
-/// at the place, which alternative is looked at, and whether an event counts only above the place and with the very terms that the query
-/// asks for.
+/// What a search from a place of the left event reads: the pool, the survey of the game, which of its variables come later than a place,
+/// what the file declares, the query, what is known at the place, which alternative is looked at, and whether an event counts only above
+/// the place and with the very terms that the query asks for.
 #[derive(Clone, Copy)]
 pub(crate) struct Scene<'a> {
     pub(crate) alloc: Global,
     pub(crate) pool: &'a Pool,
     pub(crate) survey: &'a Survey,
+    pub(crate) lateness: &'a Lateness,
     pub(crate) theory: &'a Theory,
     pub(crate) query: &'a Correspondence,
     pub(crate) last: u32,
@@ -253,6 +255,20 @@ impl Search {
         Ok(derivation)
     }
 
+    /// The first cell that is defined at a place, by what is known there, and can't be: one at current indices of a variable that comes
+    /// later.
+    fn late_cell(&mut self, scene: Scene, place: u32) -> Result<Option<CurrentCell>, AllocError> {
+        let cells = self
+            .grounds
+            .current_cells(scene.alloc, scene.survey, scene.last)?;
+        for cell in cells {
+            if scene.lateness.is_late(scene.pool, cell.variable, place) {
+                return Ok(Some(cell));
+            }
+        }
+        Ok(None)
+    }
+
     /// A derivation that no run comes to a place: what is known there contradicts itself, or a cell is defined that comes later.
     pub(crate) fn never(
         &mut self,
@@ -262,10 +278,7 @@ impl Search {
         if let Some(by) = self.derive(scene, &[Target::Never])? {
             return Ok(Some(by));
         }
-        let found = self
-            .grounds
-            .late_cell(scene.alloc, scene.survey, scene.last, place)?;
-        match found {
+        match self.late_cell(scene, place)? {
             Some(late) => derive_late(scene.alloc, &self.grounds.closure, late.cell, &late.indices),
             None => Ok(None),
         }

@@ -7,6 +7,7 @@ use crate::routes::{Scene, Search};
 use crate::secrets::{Game, secret};
 use cv_closure::Theory;
 use cv_grounds::{Event, Given, Grounds, Survey, open};
+use cv_settling_lateness::Lateness;
 use cv_syntax::{Head, NodeId, Pool};
 use std::alloc::{AllocError, Global};
 
@@ -201,13 +202,14 @@ fn secrecy_of(pool: &Pool, query: NodeId) -> Option<Secrecy> {
     }
 }
 
-/// A proposal of what closes a query in the game of a survey: of a correspondence entries and pairs with their derivations, and of secrecy
+/// A proposal of what closes a query in the game of a survey, and of the table of which variables come later: of a correspondence entries and pairs with their derivations, and of secrecy
 /// pairs alone, where they are found with the effort that is left, which is another one where pairs are needed. That it closes the
 /// query is tested by the kernel. The pool stays as it is, and want of memory alone ends the search otherwise.
 pub fn direct(
     alloc: Global,
     pool: &Pool,
     survey: &Survey,
+    lateness: &Lateness,
     theory: &Theory,
     query: NodeId,
     effort: &mut Effort,
@@ -234,6 +236,7 @@ pub fn direct(
         alloc,
         pool,
         survey,
+        lateness,
         theory,
         query: &wanted,
         last: 0,

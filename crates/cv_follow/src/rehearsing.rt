@@ -14,9 +14,8 @@ ghost use Rattle.cv_follow.specs.Searches.{HasSearched};
 use crate::searching::search_by;
 use crate::walk::Walk;
 use cv_outside::{Sink, SureSink};
-use cv_rehearsals::{MOST_REHEARSALS, Rehearsals};
 use cv_report::{Status, Stream, Verdict};
-use cv_strategy::{MOST_NODES, Spared, Strategy};
+use cv_strategy::{MOST_NODES, MOST_REHEARSALS, Rehearsals, Spared, Strategy};
 use cv_syntax::{Game, Work};
 use std::alloc::{AllocError, Global};
 

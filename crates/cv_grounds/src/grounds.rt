@@ -19,11 +19,12 @@ pub struct Grounds {
     depths: Vec<u32>,
 }
 
-/// A cell at current indices of a variable that comes later than the place: its number, and of each of its index terms that is another
-/// term than the current index, but equal to it, both.
+/// A cell at current indices: its number, its variable, and of each of its index terms that is another term than the current index, but
+/// equal to it, both.
 #[derive(Drop)]
-pub struct LateCell {
+pub struct CurrentCell {
     pub cell: usize,
+    pub variable: u32,
     pub indices: Vec<(TermId, TermId)>,
 }
 
@@ -367,38 +368,30 @@ impl Grounds {
         Ok(Some(others))
     }
 
-    /// Whether a variable comes later than a place.
-    fn is_late(&mut self, survey: &Survey, x: u32, place: u32) -> bool {
-        let effort = self.closure.effort();
-        let mut left = effort;
-        let is_late = survey.lateness().is_late(x, place, &mut left);
-        let _may_go_on = self.closure.spend(effort.saturating_sub(left) as usize);
-        is_late
-    }
-
-    /// The first cell that is defined at the place, by what is known there, and can't be: one at current indices of a variable that
-    /// comes later.
-    pub fn late_cell(
+    /// The cells that are defined at a place, by what is known there, of which the index terms are the current indices.
+    pub fn current_cells(
         &mut self,
         alloc: Global,
         survey: &Survey,
         last: u32,
-        place: u32,
-    ) -> Result<Option<LateCell>, AllocError> {
+    ) -> Result<Vec<CurrentCell>, AllocError> {
+        let mut found = Vec::new(alloc);
         let current = self.given(alloc, survey, last, None)?;
         for cell in 0..self.closure.cells().len() {
             let Some(term) = self.closure.cells().get(cell).map(|c| c.term) else {
-                return Ok(None);
+                return Ok(found);
             };
-            let Some(x) = variable_of(&self.closure, term) else {
-                return Ok(None);
+            let Some(variable) = variable_of(&self.closure, term) else {
+                return Ok(found);
             };
             if let Some(indices) = self.current_indices(alloc, term, &current)? {
-                if self.is_late(survey, x, place) {
-                    return Ok(Some(LateCell { cell, indices }));
-                }
+                found.push(CurrentCell {
+                    cell,
+                    variable,
+                    indices,
+                })?;
             }
         }
-        Ok(None)
+        Ok(found)
     }
 }

@@ -3,7 +3,6 @@
 #![tactic(auto)]
 
 mod grounds;
-mod lateness;
 mod nodes;
 mod pairs;
 mod planting;
@@ -11,8 +10,7 @@ mod survey;
 mod theories;
 mod translating;
 
-pub use grounds::{Grounds, LateCell};
-pub use lateness::Lateness;
+pub use grounds::{CurrentCell, Grounds};
 pub use nodes::{binders, items, nodes_up_to, open};
 pub use pairs::{Copies, End};
 pub use planting::plant_terms;

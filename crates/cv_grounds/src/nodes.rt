@@ -1,13 +1,24 @@
-ghost use Rattle.std.specs.Prelude.{IfSome};
+ghost use Rattle.std.specs.Prelude.{◌≡◌, ◌-◌, ◌<◌, ◌≤◌, ◌^◌, ◌↔◌, All, IfNone, IfOk, IfSome, IsNone, Some, length};
+ghost use Rattle.cv_grounds.specs.Lists.{binder_names, full_items, trees_at};
 ghost use Rattle.cv_pool.specs.Nodes.{ChildBelow};
+ghost use Rattle.cv_syntax.specs.PoolTrees.{tree_at};
+ghost use Rattle.cv_syntax_trees.specs.Tree.{Empty, Node, size};
 
 use cv_syntax::{Head, NodeId, Opened, Pool, read_node};
 use std::alloc::{AllocError, Global};
 
 /// Reads a node, where the pool has it. Its children have smaller numbers.
 pub fn open(pool: &Pool, n: NodeId) -> Option<Opened>
+    ensures live { IfSome result (λ o. n.0 < length pool.now.trees) }
+    ensures tree { IfSome result (λ o. tree_at pool.now.trees (Some n)
+        ≡ Node o.head (tree_at pool.now.trees o.first) (tree_at pool.now.trees o.second)) }
     ensures first { IfSome result (λ o. ChildBelow n.0 o.first) }
     ensures second { IfSome result (λ o. ChildBelow n.0 o.second) }
+    ensures no_first { IfSome result (λ o. IsNone o.first
+        ↔ (tree_at pool.now.trees o.first ≡ Empty)) }
+    ensures no_second { IfSome result (λ o. IsNone o.second
+        ↔ (tree_at pool.now.trees o.second ≡ Empty)) }
+    ensures none { IfNone result (tree_at pool.now.trees (Some n) ≡ Empty) }
 {
     if n.0 < pool.live() {
         Some(read_node(pool, n))
@@ -17,13 +28,14 @@ pub fn open(pool: &Pool, n: NodeId) -> Option<Opened>
 }
 
 /// The items of a list.
-pub fn items(alloc: Global, pool: &Pool, list: Option<NodeId>) -> Result<Vec<NodeId>, AllocError> {
+pub fn items(alloc: Global, pool: &Pool, list: Option<NodeId>) -> Result<Vec<NodeId>, AllocError>
+    ensures trees { IfOk result (λ ns. trees_at pool.now.trees ns.items
+        ≡ full_items (tree_at pool.now.trees list)) }
+    ensures live { IfOk result (λ ns. All (λ n. n.0 < length pool.now.trees) ns.items) }
+{
     let mut items = Vec::new(alloc);
     let mut at = list;
-    for _ in 0..pool.live() {
-        let Some(n) = at else {
-            return Ok(items);
-        };
+    'cells: while let Some(n) = at {
         let Some(cell) = open(pool, n) else {
             return Ok(items);
         };
@@ -36,13 +48,12 @@ pub fn items(alloc: Global, pool: &Pool, list: Option<NodeId>) -> Result<Vec<Nod
 }
 
 /// The names of a list of binders.
-pub fn binders(alloc: Global, pool: &Pool, list: Option<NodeId>) -> Result<Vec<u32>, AllocError> {
+pub fn binders(alloc: Global, pool: &Pool, list: Option<NodeId>) -> Result<Vec<u32>, AllocError>
+    ensures { IfOk result (λ xs. xs.items ≡ binder_names (tree_at pool.now.trees list)) }
+{
     let mut names = Vec::new(alloc);
     let mut at = list;
-    for _ in 0..pool.live() {
-        let Some(n) = at else {
-            return Ok(names);
-        };
+    'cells: while let Some(n) = at {
         let Some(cell) = open(pool, n) else {
             return Ok(names);
         };
@@ -78,21 +89,19 @@ pub fn arguments(
 }
 
 /// How many nodes a tree has, where it has no more than so many; or a number that is greater.
-pub fn nodes_up_to(pool: &Pool, start: NodeId, most: u32) -> u32 {
+pub fn nodes_up_to(pool: &Pool, start: NodeId, most: u32) -> u32
+    ensures few { result ≤ most → most < 2 ^ 32 - 1
+        → result ≡ size (tree_at pool.now.trees (Some start)) }
+    ensures least { result ≤ size (tree_at pool.now.trees (Some start)) }
+{
     let mut total = 0_u32;
     let mut at = Some(start);
-    for _ in 0..pool.live() {
-        let Some(n) = at else {
-            return total;
-        };
+    'chain: while let Some(n) = at {
         let Some(node) = open(pool, n) else {
             return total;
         };
         total = total.saturating_add(node.head.weight());
         if let Some(child) = node.first {
-            if child.0 >= start.0 {
-                return total;
-            }
             total = total.saturating_add(nodes_up_to(pool, child, most));
         }
         if total > most {

@@ -1,6 +1,5 @@
 // What is known at each place of a game, the sites of variables, the arrays that are chosen at random, the events, the definitions by
 // terms, and the bodies of tests.
-use crate::lateness::Lateness;
 use crate::nodes::{binders, items, open};
 use cv_scope_rules::Position;
 use cv_syntax::{Game, Head, NodeId, Opened, Pool};
@@ -108,7 +107,6 @@ pub struct Survey {
     events: Vec<Event>,
     definitions: Vec<Definition>,
     parts: Vec<Part>,
-    lateness: Lateness,
     place: u32,
 }
 
@@ -123,7 +121,6 @@ impl Survey {
             events: Vec::new(alloc),
             definitions: Vec::new(alloc),
             parts: Vec::new(alloc),
-            lateness: Lateness::of(alloc, pool, game.root)?,
             place: 0,
         };
         let walk = Walk {
@@ -151,11 +148,6 @@ impl Survey {
     /// The bodies of tests, in the order of their places.
     pub fn parts(&self) -> &[Part] {
         &self.parts
-    }
-
-    /// Which variables come later than a place.
-    pub fn lateness(&self) -> &Lateness {
-        &self.lateness
     }
 
     /// What is known behind the only definition of a variable, where there is one alone.

@@ -1,7 +1,2 @@
-// The rehearsals of a search: which costly steps it leaves out, since the same queries are closed without them, up to smaller sums.
+// What a rehearsal of a search stands on, and what it leaves as it was.
 #![tactic(auto)]
-
-mod rehearsals;
-mod scores;
-
-pub use rehearsals::{MOST_REHEARSALS, Rehearsals};

@@ -1,1 +1,10 @@
+pub mod Compared
 pub mod Growing
+pub mod Matched
+pub mod Measuring
+pub mod Opening
+pub mod Picked
+pub mod Rooted
+pub mod Shorter
+pub mod Told
+pub mod Typed

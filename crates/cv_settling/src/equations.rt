@@ -1,199 +1,151 @@
-// The equations of a file, from left to right, by the heads of their left sides.
+// The equations of a file, from left to right.
+ghost use Rattle.std.specs.Prelude.{◌≡◌, ◌++◌, [], All, IfOk, IfSome, OnOk, Some, map, option_and_then, option_map, slice_get};
+ghost use Rattle.cv_syntax_trees.specs.Tree.{bound_names, first, second};
+ghost use Rattle.cv_syntax.specs.Declarations.{declarations};
+ghost use Rattle.cv_syntax.specs.NameSets.{is_one_of};
+ghost use Rattle.cv_syntax.specs.PoolTrees.{tree_at};
+ghost use Rattle.cv_scene.specs.Reasons.{equations_in};
+ghost use Rattle.cv_settling.specs.Instances as instances;
+ghost use Rattle.cv_settling.specs.Instances.{HasRoot, declared_equation, may_have, numbered_from, seen_in, with_sides};
+ghost use Rattle.cv_settling.specs.Rewritings.{listed};
+
+use crate::parts::opened;
 use cv_grounds::open;
-use cv_syntax::{Decl, Decls, Head, NodeId, Pool};
+use cv_syntax::{Code, Decl, Decls, Head, NodeId, Pool};
 use std::alloc::{AllocError, Global};
-use std::collections::HashMap;
 
-/// A variable of an equation, with its type.
+/// An equation: its number in the file, from 1, its variables, its sides, and the head of its left side, where that is no variable.
 #[derive(Clone, Copy)]
-pub(crate) struct Binder {
-    pub(crate) name: u32,
-    pub(crate) of_type: u32,
-}
-
-/// An equation: its number in the file, from 1, its variables, its sides, and the next one of its chain.
-#[derive(Drop)]
 pub(crate) struct Equation {
     pub(crate) number: u64,
-    pub(crate) variables: Vec<Binder>,
-    pub(crate) left: NodeId,
-    pub(crate) right: NodeId,
-    pub(crate) next: Option<usize>,
+    pub(crate) binders: Option<NodeId>,
+    pub(crate) left: Option<NodeId>,
+    pub(crate) right: Option<NodeId>,
+    pub(crate) root: Option<Code>,
 }
 
-/// Equations in the order of the file, in chains by the heads of their left sides, and the first one of each chain. Where a left
-/// side is a variable, all are in one chain.
-#[derive(Drop)]
-pub(crate) struct Equations {
-    list: Vec<Equation>,
-    firsts: HashMap<u64, usize>,
-    has_variable: bool,
-}
-
-/// The key of all heads.
-const ANY: u64 = u64::MAX;
-
-/// The key of a head.
-fn key_of(head: Head) -> u64 {
-    let code = head.code();
-    u64::from(code.tag) * 4_294_967_296 + u64::from(code.a)
-}
-
-impl Equation {
-    /// The type of a name, where it is a variable of the equation.
-    pub(crate) fn type_of(&self, x: u32) -> Option<u32> {
-        for variable in &self.variables {
-            if variable.name == x {
-                return Some(variable.of_type);
-            }
-        }
-        None
-    }
-}
-
-/// The variables of an equation.
-fn variables_of(
-    alloc: Global,
-    pool: &Pool,
-    list: Option<NodeId>,
-) -> Result<Vec<Binder>, AllocError> {
-    let mut variables = Vec::new(alloc);
-    let mut at = list;
-    for _ in 0..pool.live() {
-        let Some(cell) = at.and_then(|n| open(pool, n)) else {
-            return Ok(variables);
+/// Whether binders bind a name.
+fn is_bound(pool: &Pool, binders: Option<NodeId>, x: u32) -> bool
+    ensures { result ≡ is_one_of (bound_names (tree_at pool.now.trees binders)) x }
+{
+    let mut at = binders;
+    'binders: while let Some(cell) = opened(pool, at) {
+        let Head::Binder(y, _) = cell.head else {
+            return false;
         };
-        if let Head::Binder(name, of_type) = cell.head {
-            variables.push(Binder { name, of_type })?;
+        if y == x {
+            return true;
         }
         at = cell.second;
     }
-    Ok(variables)
+    false
+}
+
+/// Whether a head is a variable of binders.
+fn is_variable(pool: &Pool, binders: Option<NodeId>, head: Head) -> bool
+    ensures { result ≡ instances.is_variable (bound_names (tree_at pool.now.trees binders)) head }
+{
+    match head {
+        Head::Leaf(x) => is_bound(pool, binders, x),
+        _ => false,
+    }
+}
+
+/// The head of a left side, where that is no variable.
+fn root_of(pool: &Pool, binders: Option<NodeId>, left: Option<NodeId>) -> Option<Code>
+    ensures { result ≡ instances.root_of (bound_names (tree_at pool.now.trees binders))
+        (tree_at pool.now.trees left) }
+{
+    let node = opened(pool, left)?;
+    if is_variable(pool, binders, node.head) {
+        return None;
+    }
+    Some(node.head.code())
 }
 
 /// An equation of a file, where its term is one.
-fn equation_of(
-    alloc: Global,
+fn equation_of(pool: &Pool, number: u64, n: NodeId) -> Option<Equation>
+    ensures sides { listed (option_map (seen_in pool.now.trees) result)
+        ≡ with_sides number (first (tree_at pool.now.trees (Some n)))
+        (second (tree_at pool.now.trees (Some n))) [] }
+    ensures root { IfSome result (HasRoot pool.now.trees) }
+{
+    let Some(node) = open(pool, n) else {
+        return None;
+    };
+    let Some(body) = opened(pool, node.second) else {
+        return None;
+    };
+    match body.head {
+        Head::Eq => Some(Equation {
+            number,
+            binders: node.first,
+            left: body.first,
+            right: body.second,
+            root: root_of(pool, node.first, body.first),
+        }),
+        _ => None,
+    }
+}
+
+/// The term of the declaration at a place, where it is an equation.
+fn equation_at(decls: &Decls, k: u32) -> Option<NodeId>
+    ensures { result ≡ option_and_then declared_equation (slice_get decls.now.list k) }
+{
+    match decls.get(k)? {
+        Decl::Equation(n) => Some(*n),
+        _ => None,
+    }
+}
+
+/// Adds an equation of a file, where its term is one.
+fn push_equation(
     pool: &Pool,
     number: u64,
     n: NodeId,
-) -> Result<Option<Equation>, AllocError> {
-    let Some(node) = open(pool, n) else {
-        return Ok(None);
+    equations: &mut Vec<Equation>,
+) -> Result<(), AllocError>
+    ensures told { OnOk result (map (seen_in pool.now.trees) equations.new.items
+        ≡ map (seen_in pool.now.trees) equations.old.items
+        ++ with_sides number (first (tree_at pool.now.trees (Some n)))
+        (second (tree_at pool.now.trees (Some n))) []) }
+    ensures roots { OnOk result (All (HasRoot pool.now.trees) equations.old.items
+        → All (HasRoot pool.now.trees) equations.new.items) }
+{
+    let Some(equation) = equation_of(pool, number, n) else {
+        return Ok(());
     };
-    let Some(body) = node.second.and_then(|m| open(pool, m)) else {
-        return Ok(None);
-    };
-    let (Head::Eq, Some(left), Some(right)) = (body.head, body.first, body.second) else {
-        return Ok(None);
-    };
-    Ok(Some(Equation {
-        number,
-        variables: variables_of(alloc, pool, node.first)?,
-        left,
-        right,
-        next: None,
-    }))
+    equations.push(equation)?;
+    Ok(())
 }
 
-/// The key of a term; none where it isn't there.
-fn key_at(pool: &Pool, n: NodeId) -> Option<u64> {
-    Some(key_of(open(pool, n)?.head))
+/// The equations of a file, in their order.
+pub(crate) fn equations_of(
+    alloc: Global,
+    pool: &Pool,
+    decls: &Decls,
+) -> Result<Vec<Equation>, AllocError>
+    ensures equations { IfOk result (λ es. map (seen_in pool.now.trees) es.items
+        ≡ numbered_from 1 (equations_in (declarations pool.now.trees decls.now.list))) }
+    ensures roots { IfOk result (λ es. All (HasRoot pool.now.trees) es.items) }
+{
+    let mut equations = Vec::new(alloc);
+    let mut number = 1_u64;
+    for k in 0..decls.len() {
+        if let Some(n) = equation_at(decls, k) {
+            push_equation(pool, number, n, &mut equations)?;
+            number += 1;
+        }
+    }
+    Ok(equations)
 }
 
-/// Whether the left side of an equation is one of its variables.
-fn is_variable(pool: &Pool, equation: &Equation) -> bool {
-    match open(pool, equation.left) {
-        Some(node) => match node.head {
-            Head::Leaf(x) => equation.type_of(x).is_some(),
-            _ => false,
-        },
-        None => false,
-    }
-}
-
-impl Equations {
-    /// The equations of a file.
-    pub(crate) fn of(alloc: Global, pool: &Pool, decls: &Decls) -> Result<Equations, AllocError> {
-        let mut equations = Equations {
-            list: Vec::new(alloc),
-            firsts: HashMap::new(alloc),
-            has_variable: false,
-        };
-        let mut number = 0_u64;
-        for k in 0..decls.len() {
-            if let Some(Decl::Equation(n)) = decls.get(k) {
-                number = number.saturating_add(1);
-                if let Some(equation) = equation_of(alloc, pool, number, *n)? {
-                    equations.add(pool, equation)?;
-                }
-            }
-        }
-        equations.chain(pool)?;
-        Ok(equations)
-    }
-
-    /// Adds an equation.
-    fn add(&mut self, pool: &Pool, equation: Equation) -> Result<(), AllocError> {
-        if is_variable(pool, &equation) {
-            self.has_variable = true;
-        }
-        self.list.push(equation)?;
-        Ok(())
-    }
-
-    /// The key of the chain for a term.
-    fn chain_of(&self, pool: &Pool, n: NodeId) -> Option<u64> {
-        if self.has_variable {
-            return Some(ANY);
-        }
-        key_at(pool, n)
-    }
-
-    /// Puts an equation before the chain of those behind it.
-    fn link(&mut self, pool: &Pool, k: usize) -> Result<(), AllocError> {
-        let Some(equation) = self.list.get(k) else {
-            return Ok(());
-        };
-        let Some(key) = self.chain_of(pool, equation.left) else {
-            return Ok(());
-        };
-        let next = match self.firsts.get(&key) {
-            Some(there) => Some(*there),
-            None => None,
-        };
-        if let Some(equation) = self.list.get_mut(k) {
-            equation.next = next;
-        }
-        self.firsts.insert(key, k)?;
-        Ok(())
-    }
-
-    /// Puts all equations in chains, from the last one to the first.
-    fn chain(&mut self, pool: &Pool) -> Result<(), AllocError> {
-        let count = self.list.len();
-        for k in 0..count {
-            self.link(pool, count - 1 - k)?;
-        }
-        Ok(())
-    }
-
-    /// How many equations there are.
-    pub(crate) fn len(&self) -> usize {
-        self.list.len()
-    }
-
-    /// The equation of this number among those that are told.
-    pub(crate) fn get(&self, k: usize) -> Option<&Equation> {
-        self.list.get(k)
-    }
-
-    /// The first equation whose left side may be a term.
-    pub(crate) fn first(&self, pool: &Pool, n: NodeId) -> Option<usize> {
-        let key = self.chain_of(pool, n)?;
-        match self.firsts.get(&key) {
-            Some(k) => Some(*k),
-            None => None,
-        }
+/// Whether a left side may have a head.
+pub(crate) fn may_have(root: Option<Code>, head: Head) -> bool
+    ensures { result ≡ may_have root head }
+{
+    match root {
+        Some(code) => code == head.code(),
+        None => true,
     }
 }

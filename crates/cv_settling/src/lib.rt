@@ -9,6 +9,7 @@ mod equations;
 mod matching;
 mod measure;
 mod merge;
+mod parts;
 mod prune;
 mod rewrite;
 mod stop;
@@ -16,6 +17,7 @@ mod suggesting;
 mod tally;
 mod terms;
 mod truths;
+mod types;
 mod unlet;
 mod unnew;
 

@@ -1,102 +1,190 @@
 // Whether a term is the left side of an equation, with terms for its variables.
-use crate::equations::Equation;
-use crate::terms::{Given, given_for};
-use cv_grounds::open;
-use cv_settling_overview::walk::Overview;
-use cv_syntax::{Decls, Head, NameId, NodeId, Pool};
+ghost use Rattle.std.specs.Prelude.{◌≡◌, IfOk, IfSome, List, Some, option_map};
+ghost use Rattle.cv_pool.specs.KindTree.{KindTree};
+ghost use Rattle.cv_syntax_trees.specs.Tree.{Tree, Node, bound_names, same_tree};
+ghost use Rattle.cv_syntax.specs.PoolTrees.{tree_at};
+ghost use Rattle.cv_scene.specs.Instances as instances;
+ghost use Rattle.cv_scene.specs.Scenes.{Scene};
+ghost use Rattle.cv_settling_rules.specs.Equations as equations;
+ghost use Rattle.cv_settling.specs.Instances.{HasRoot, instance_of, lower_instance_of, seen_in, typed_term, typed_terms};
+ghost use Rattle.cv_settling.specs.Putting.{names_of, put_in, terms_of};
+ghost use Rattle.cv_settling.specs.Rewritings.{IsMeasurable};
+ghost use Rattle.cv_settling.specs.Seen.{IsTableOf};
+
+use crate::equations::{Equation, may_have};
+use crate::measure::{is_less, measure_of, measure_put};
+use crate::parts::{are_same, are_same_heads, first_part, is_nothing, opened, second_part};
+use crate::terms::{Given, given_at};
+use crate::types::{Table, type_of};
+use cv_syntax::{Head, NodeId, Pool};
 use std::alloc::{AllocError, Global};
 
-/// What is looked at: the pool, what the file declares, and the overview of the game.
+/// What stands for a name: a part of a term, which may be none.
 #[derive(Clone, Copy)]
-pub(crate) struct Scene<'a> {
-    pub(crate) alloc: Global,
-    pub(crate) pool: &'a Pool,
-    pub(crate) decls: &'a Decls,
-    pub(crate) overview: &'a Overview,
+struct Part {
+    tree: Option<NodeId>,
 }
 
-/// The type of what a function gives.
-fn result_of(decls: &Decls, f: u32) -> Option<u32> {
-    match decls.result(NameId(f)) {
-        Some(t) => Some(t.0),
-        None => None,
-    }
-}
-
-/// The type of a term. An index has none.
-pub(crate) fn type_of(scene: Scene, n: NodeId) -> Option<u32> {
-    match open(scene.pool, n)?.head {
-        Head::Leaf(x) | Head::Read(x) => {
-            let variable = scene.overview.variables.get(x);
-            if variable.sites > 0 {
-                variable.of_type
-            } else {
-                result_of(scene.decls, x)
-            }
-        }
-        Head::Apply(f) => result_of(scene.decls, f),
-        Head::Eq | Head::And | Head::Or | Head::Not | Head::Yes | Head::No => Some(0),
+/// What stands for a name at a node of a pattern.
+fn standing_here(head: Head, x: u32, tree: Option<NodeId>) -> Option<Part>
+    ensures { (trees : List KindTree) → option_map (λ o. tree_at trees o.tree) result
+        ≡ instances.standing_here x head (tree_at trees tree) }
+{
+    match head {
+        Head::Leaf(y) => { if y == x { Some(Part { tree }) } else { None } }
         _ => None,
     }
 }
 
-/// Lets a term stand for a variable of a type, where none does or the same does.
-fn bind(
-    scene: Scene,
-    name: u32,
-    of_type: u32,
-    term: NodeId,
-    given: &mut Vec<Given>,
-) -> Result<bool, AllocError> {
-    if let Some(there) = given_for(given, name) {
-        return Ok(there == term);
-    }
-    let Some(there) = type_of(scene, term) else {
-        return Ok(false);
+/// What stands in a term where a pattern first has a name.
+fn standing(pool: &Pool, x: u32, pattern: Option<NodeId>, term: Option<NodeId>) -> Option<Part>
+    ensures { option_map (λ o. tree_at pool.now.trees o.tree) result
+        ≡ instances.standing_for x (tree_at pool.now.trees pattern) (tree_at pool.now.trees term) }
+{
+    let Some(node) = opened(pool, pattern) else {
+        return None;
     };
-    if there != of_type {
-        return Ok(false);
+    if let Some(there) = standing_here(node.head, x, term) {
+        return Some(there);
     }
-    given.push(Given { name, term })?;
-    Ok(true)
+    if let Some(there) = standing(pool, x, node.first, first_part(pool, term)) {
+        return Some(there);
+    }
+    standing(pool, x, node.second, second_part(pool, term))
 }
 
-/// Whether a term is a pattern with terms for the variables of an equation, those that stand for them so far and further ones.
-pub(crate) fn matches(
-    scene: Scene,
-    equation: &Equation,
-    pattern: NodeId,
-    term: NodeId,
-    given: &mut Vec<Given>,
-) -> Result<bool, AllocError> {
-    let mut left = Some(pattern);
-    let mut right = Some(term);
-    for _ in 0..scene.pool.live() {
-        let (Some(p), Some(t)) = (left, right) else {
-            return Ok(left.is_none() && right.is_none());
-        };
-        let (Some(x), Some(y)) = (open(scene.pool, p), open(scene.pool, t)) else {
-            return Ok(false);
-        };
-        if let Head::Leaf(name) = x.head {
-            if let Some(of_type) = equation.type_of(name) {
-                return bind(scene, name, of_type, t, given);
-            }
-        }
-        if x.head.code() != y.head.code() {
-            return Ok(false);
-        }
-        match (x.first, y.first) {
-            (Some(a), Some(b)) => {
-                if a.0 >= pattern.0 || !matches(scene, equation, a, b, given)? {
-                    return Ok(false);
-                }
-            }
-            (None, None) => {}
-            _ => return Ok(false),
-        }
-        left = x.second;
-        right = y.second;
+/// Whether a term is a pattern with terms for names.
+fn is_put(pool: &Pool, given: &[Given], pattern: Option<NodeId>, term: Option<NodeId>) -> bool
+    ensures { result ≡ same_tree (put_in pool.now.trees given.now (tree_at pool.now.trees pattern))
+        (tree_at pool.now.trees term) }
+{
+    let Some(node) = opened(pool, pattern) else {
+        return is_nothing(pool, term);
+    };
+    if let Some(there) = given_at(given, node.head) {
+        return are_same(pool, Some(there), term);
     }
-    Ok(false)
+    let Some(other) = opened(pool, term) else {
+        return false;
+    };
+    if !are_same_heads(node.head, other.head) {
+        return false;
+    }
+    if !is_put(pool, given, node.first, other.first) {
+        return false;
+    }
+    is_put(pool, given, node.second, other.second)
+}
+
+/// Whether a term is of a type.
+fn is_of_type(table: &Table, term: Option<NodeId>, t: u32) -> bool
+    ensures { (s : Scene) → IsTableOf s table.now
+        → result ≡ equations.is_of_type s t (tree_at table.now.pool.now.trees term) }
+{
+    match type_of(table, term) {
+        Some(u) => u == t,
+        None => false,
+    }
+}
+
+/// The term of a type that stands for a variable.
+fn typed_term(table: &Table, left: Option<NodeId>, term: NodeId, x: u32, t: u32) -> Option<NodeId>
+    ensures { (s : Scene) → IsTableOf s table.now
+        → option_map (λ n. tree_at table.now.pool.now.trees (Some n)) result
+        ≡ typed_term s t x (tree_at table.now.pool.now.trees left)
+        (tree_at table.now.pool.now.trees (Some term)) }
+{
+    let there = standing(table.pool, x, left, Some(term))?;
+    if is_of_type(table, there.tree, t) {
+        there.tree
+    } else {
+        None
+    }
+}
+
+/// What stands for the variables of an equation where its left side first has them, each term of its type.
+fn typed_terms_of(
+    alloc: Global,
+    table: &Table,
+    equation: &Equation,
+    term: NodeId,
+) -> Result<Option<Vec<Given>>, AllocError>
+    ensures terms { IfOk result (λ o. (s : Scene) → IsTableOf s table.now
+        → option_map (λ gs. terms_of table.now.pool.now.trees gs.items) o
+        ≡ typed_terms s (tree_at table.now.pool.now.trees equation.now.binders)
+        (tree_at table.now.pool.now.trees equation.now.left)
+        (tree_at table.now.pool.now.trees (Some term))) }
+    ensures names { IfOk result (λ o. IfSome o (λ gs. names_of gs.items
+        ≡ bound_names (tree_at table.now.pool.now.trees equation.now.binders))) }
+{
+    let mut given = Vec::new(alloc);
+    let mut at = equation.binders;
+    'binders: while let Some(cell) = opened(table.pool, at) {
+        let Head::Binder(name, of_type) = cell.head else {
+            return Ok(Some(given));
+        };
+        let Some(there) = typed_term(table, equation.left, term, name, of_type) else {
+            return Ok(None);
+        };
+        given.push(Given { name, term: there })?;
+        at = cell.second;
+    }
+    Ok(Some(given))
+}
+
+/// What stands for the variables of an equation whose left side a term is.
+fn instance(
+    alloc: Global,
+    table: &Table,
+    equation: &Equation,
+    term: NodeId,
+) -> Result<Option<Vec<Given>>, AllocError>
+    ensures terms { IfOk result (λ o. (s : Scene) → IsTableOf s table.now
+        → option_map (λ gs. terms_of table.now.pool.now.trees gs.items) o
+        ≡ instance_of s (seen_in table.now.pool.now.trees equation.now)
+        (tree_at table.now.pool.now.trees (Some term))) }
+    ensures names { IfOk result (λ o. IfSome o (λ gs. names_of gs.items
+        ≡ bound_names (tree_at table.now.pool.now.trees equation.now.binders))) }
+{
+    let terms = typed_terms_of(alloc, table, equation, term)?;
+    let Some(given) = terms else {
+        return Ok(None);
+    };
+    if is_put(table.pool, &given, equation.left, Some(term)) {
+        Ok(Some(given))
+    } else {
+        Ok(None)
+    }
+}
+
+/// What stands for the variables of an equation whose left side a term with this head is, where the right side has a lower measure.
+pub(crate) fn lower_instance(
+    alloc: Global,
+    table: &Table,
+    equation: &Equation,
+    head: Head,
+    term: NodeId,
+) -> Result<Option<Vec<Given>>, AllocError>
+    requires { HasRoot table.now.pool.now.trees equation.now }
+    ensures { IfOk result (λ o. (s : Scene) (a b : Tree) → IsTableOf s table.now
+        → IsMeasurable (tree_at table.now.pool.now.trees (Some term))
+        → tree_at table.now.pool.now.trees (Some term) ≡ Node head a b
+        → option_map (λ gs. terms_of table.now.pool.now.trees gs.items) o
+        ≡ lower_instance_of s (seen_in table.now.pool.now.trees equation.now)
+        (tree_at table.now.pool.now.trees (Some term))) }
+{
+    if !may_have(equation.root, head) {
+        return Ok(None);
+    }
+    let terms = instance(alloc, table, equation, term)?;
+    let Some(given) = terms else {
+        return Ok(None);
+    };
+    let before = measure_of(table, Some(term));
+    let after = measure_put(table, &given, equation.right);
+    if is_less(after, before) {
+        Ok(Some(given))
+    } else {
+        Ok(None)
+    }
 }

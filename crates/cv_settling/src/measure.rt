@@ -1,8 +1,21 @@
 // The measure that settling steps lower: how many equations at large types there are, then how many nodes.
-use crate::matching::{Scene, type_of};
-use crate::terms::{Given, given_for};
-use cv_grounds::open;
-use cv_syntax::{Class, Head, NameId, NodeId, Opened};
+ghost use Rattle.std.specs.Prelude.{◌≡◌, ◌+◌, if◌then◌else◌};
+ghost use Rattle.cv_syntax_trees.specs.Head.{weight};
+ghost use Rattle.cv_syntax_trees.specs.Tree.{size};
+ghost use Rattle.cv_syntax.specs.PoolTrees.{tree_at};
+ghost use Rattle.cv_scope_rules.specs.typing.Parts.{nothing_above};
+ghost use Rattle.cv_scope_rules.specs.typing.Signature.{sort_of};
+ghost use Rattle.cv_scene.specs.Scenes.{Scene};
+ghost use Rattle.cv_scene.specs.Terms.{signature_in};
+ghost use Rattle.cv_settling_rules.specs.Measure as measure;
+ghost use Rattle.cv_settling.specs.Measured.{capped, told};
+ghost use Rattle.cv_settling.specs.Putting.{put_in};
+ghost use Rattle.cv_settling.specs.Seen.{IsTableOf};
+
+use crate::parts::opened;
+use crate::terms::{Given, given_at};
+use crate::types::{Table, is_large};
+use cv_syntax::{Head, NodeId, Pool};
 
 /// The measure of a term.
 #[derive(Clone, Copy)]
@@ -11,114 +24,120 @@ pub(crate) struct Measure {
     nodes: u64,
 }
 
-impl Measure {
-    /// That of nothing.
-    fn none() -> Measure {
-        Measure {
-            equations: 0,
-            nodes: 0,
-        }
-    }
-
-    /// That of two terms together.
-    fn plus(self, other: Measure) -> Measure {
-        Measure {
-            equations: self.equations.saturating_add(other.equations),
-            nodes: self.nodes.saturating_add(other.nodes),
-        }
-    }
-}
+/// That of nothing.
+const NOTHING: Measure = Measure {
+    equations: 0,
+    nodes: 0,
+};
 
 /// Whether a measure is less than another one.
-pub(crate) fn is_less(a: Measure, b: Measure) -> bool {
+pub(crate) fn is_less(a: Measure, b: Measure) -> bool
+    ensures { result ≡ measure.is_less (told a) (told b) }
+{
     a.equations < b.equations || (a.equations == b.equations && a.nodes < b.nodes)
 }
 
-/// Whether a term is of a large type.
-fn is_large(scene: Scene, term: Option<NodeId>) -> bool {
-    let Some(t) = term.and_then(|n| type_of(scene, n)) else {
-        return false;
-    };
-    match scene.decls.class(NameId(t)) {
-        Class::TypeName { large, .. } => large,
+/// One, where a test holds.
+fn one_if(test: bool) -> u64
+    ensures { result ≡ (if test then 1 else 0) }
+{
+    if test { 1 } else { 0 }
+}
+
+/// A measure, and that of a node without its children.
+fn with_node(total: Measure, is_equation: bool, head: Head) -> Measure
+    ensures equations { result.equations
+        ≡ capped (total.equations + (if is_equation then 1 else 0)) }
+    ensures nodes { result.nodes ≡ capped (total.nodes + weight head) }
+{
+    Measure {
+        equations: total.equations.saturating_add(one_if(is_equation)),
+        nodes: total.nodes.saturating_add(u64::from(head.weight())),
+    }
+}
+
+/// Whether a node is an equation at a large type.
+fn is_large_equality(table: &Table, head: Head, left: Option<NodeId>) -> bool
+    ensures { (s : Scene) → IsTableOf s table.now → result
+        ≡ measure.is_large_equality s head (tree_at table.now.pool.now.trees left) }
+{
+    match head {
+        Head::Eq => is_large(table, left),
         _ => false,
     }
 }
 
-/// The measure of a node without its children, with a term on the left of an equation.
-fn measure_of_node(scene: Scene, node: Opened, left: Option<NodeId>) -> Measure {
-    let equations = match node.head {
-        Head::Eq if is_large(scene, left) => 1,
-        _ => 0,
+/// A measure, and that of a term.
+fn measure_with(table: &Table, part: Option<NodeId>, total: Measure) -> Measure
+    ensures equations { (s : Scene) → IsTableOf s table.now
+        → result.equations ≡ capped (total.equations
+        + measure.large_equalities s (tree_at table.now.pool.now.trees part)) }
+    ensures nodes { result.nodes
+        ≡ capped (total.nodes + size (tree_at table.now.pool.now.trees part)) }
+{
+    let Some(node) = opened(table.pool, part) else {
+        return total;
     };
-    Measure {
-        equations,
-        nodes: u64::from(node.head.weight()),
-    }
+    let is_equation = is_large_equality(table, node.head, node.first);
+    let here = with_node(total, is_equation, node.head);
+    let before = measure_with(table, node.first, here);
+    measure_with(table, node.second, before)
 }
 
 /// The measure of a term.
-pub(crate) fn measure_of(scene: Scene, start: NodeId) -> Measure {
-    let mut total = Measure::none();
-    let mut at = Some(start);
-    for _ in 0..scene.pool.live() {
-        let Some(n) = at else {
-            return total;
-        };
-        let Some(node) = open(scene.pool, n) else {
-            return total;
-        };
-        total = total.plus(measure_of_node(scene, node, node.first));
-        if let Some(child) = node.first {
-            if child.0 >= start.0 {
-                return total;
-            }
-            total = total.plus(measure_of(scene, child));
-        }
-        at = node.second;
-    }
-    total
+pub(crate) fn measure_of(table: &Table, term: Option<NodeId>) -> Measure
+    ensures equations { (s : Scene) → IsTableOf s table.now
+        → result.equations ≡ capped (measure.large_equalities s
+        (tree_at table.now.pool.now.trees term)) }
+    ensures nodes { result.nodes ≡ capped (size (tree_at table.now.pool.now.trees term)) }
+{
+    measure_with(table, term, NOTHING)
 }
 
-/// The term that stands for a name, where the node is one for which a term stands.
-fn term_for(scene: Scene, given: &[Given], n: NodeId) -> Option<NodeId> {
-    match open(scene.pool, n)?.head {
-        Head::Leaf(x) => given_for(given, x),
-        _ => None,
+/// What stands at the root of a part with terms for names: the term that is put there, or the part.
+fn root_of(pool: &Pool, given: &[Given], part: Option<NodeId>) -> Option<NodeId>
+    ensures { (s : Scene)
+        → sort_of (signature_in s) nothing_above (tree_at pool.now.trees result)
+        ≡ sort_of (signature_in s) nothing_above
+        (put_in pool.now.trees given.now (tree_at pool.now.trees part)) }
+{
+    let Some(node) = opened(pool, part) else {
+        return part;
+    };
+    if let Some(term) = given_at(given, node.head) {
+        return Some(term);
     }
+    part
 }
 
-/// The term on the left of an equation, with terms for names.
-fn left_of(scene: Scene, given: &[Given], node: Opened) -> Option<NodeId> {
-    let left = node.first?;
-    match term_for(scene, given, left) {
-        Some(term) => Some(term),
-        None => Some(left),
+/// A measure, and that of a part with terms for names.
+fn measure_put_with(table: &Table, given: &[Given], part: Option<NodeId>, total: Measure) -> Measure
+    ensures equations { (s : Scene) → IsTableOf s table.now
+        → result.equations ≡ capped (total.equations + measure.large_equalities s
+        (put_in table.now.pool.now.trees given.now (tree_at table.now.pool.now.trees part))) }
+    ensures nodes { result.nodes ≡ capped (total.nodes + size
+        (put_in table.now.pool.now.trees given.now (tree_at table.now.pool.now.trees part))) }
+{
+    let Some(node) = opened(table.pool, part) else {
+        return total;
+    };
+    if let Some(term) = given_at(given, node.head) {
+        return measure_with(table, Some(term), total);
     }
+    let root = root_of(table.pool, given, node.first);
+    let is_equation = is_large_equality(table, node.head, root);
+    let here = with_node(total, is_equation, node.head);
+    let before = measure_put_with(table, given, node.first, here);
+    measure_put_with(table, given, node.second, before)
 }
 
 /// The measure of a term with terms for names.
-pub(crate) fn measure_put(scene: Scene, given: &[Given], start: NodeId) -> Measure {
-    let mut total = Measure::none();
-    let mut at = Some(start);
-    for _ in 0..scene.pool.live() {
-        let Some(n) = at else {
-            return total;
-        };
-        let Some(node) = open(scene.pool, n) else {
-            return total;
-        };
-        if let Some(term) = term_for(scene, given, n) {
-            return total.plus(measure_of(scene, term));
-        }
-        total = total.plus(measure_of_node(scene, node, left_of(scene, given, node)));
-        if let Some(child) = node.first {
-            if child.0 >= start.0 {
-                return total;
-            }
-            total = total.plus(measure_put(scene, given, child));
-        }
-        at = node.second;
-    }
-    total
+pub(crate) fn measure_put(table: &Table, given: &[Given], term: Option<NodeId>) -> Measure
+    ensures equations { (s : Scene) → IsTableOf s table.now
+        → result.equations ≡ capped (measure.large_equalities s
+        (put_in table.now.pool.now.trees given.now (tree_at table.now.pool.now.trees term))) }
+    ensures nodes { result.nodes ≡ capped (size
+        (put_in table.now.pool.now.trees given.now (tree_at table.now.pool.now.trees term))) }
+{
+    measure_put_with(table, given, term, NOTHING)
 }

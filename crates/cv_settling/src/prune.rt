@@ -146,7 +146,7 @@ fn add_own_fact(pool: &mut Pool, lines: &mut Vec<Line>, pruning: &Pruning) -> Re
         Body::Else => made(pool, Head::Not, &[condition])?,
         _ => condition,
     };
-    let by = Reason::Fact(u64::from(pruning.fact));
+    let by = Reason::Fact(pruning.fact);
     lines.push(Line::Holds { term, by })?;
     Ok(())
 }
@@ -195,7 +195,7 @@ fn add_opposed(
 ) -> Result<(), Stop>
     ensures { Grows pool.old pool.new }
 {
-    let fact = u64::from(citation.fact);
+    let fact = citation.fact;
     cite(alloc, pool, lines, &[], citation, Reason::Fact(fact))?;
     let cited = last_of(lines);
     add_own_fact(pool, lines, pruning)?;
@@ -247,7 +247,7 @@ fn add_cell(
         cell,
         by: Reason::Here,
     })?;
-    let by = Reason::Site(1, u64::from(falsehood.citation.fact));
+    let by = Reason::Site(1, falsehood.citation.fact);
     cite(alloc, pool, lines, &given, &falsehood.citation, by)
 }
 
@@ -261,7 +261,7 @@ fn add_index(
 ) -> Result<u64, Stop>
     ensures { Grows pool.old pool.new }
 {
-    let by = Reason::Fact(u64::from(equated.citation.fact));
+    let by = Reason::Fact(equated.citation.fact);
     cite(alloc, pool, lines, &[], &equated.citation, by)?;
     let above = last_of(lines);
     if !equated.is_turned {

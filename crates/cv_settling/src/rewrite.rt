@@ -1,97 +1,116 @@
 // The terms that an equation makes smaller.
+ghost use Rattle.std.specs.Prelude.{◌≡◌, All, IfOk, Some, map, option_map};
+ghost use Rattle.std.specs.List.{filter, flat_map};
 ghost use Rattle.cv_pool.specs.PoolView.{Grows};
+ghost use Rattle.cv_syntax.specs.PoolTrees.{tree_at};
+ghost use Rattle.cv_scene.specs.Reasons.{equations_in};
+ghost use Rattle.cv_scene.specs.Scenes.{Scene};
+ghost use Rattle.cv_settling_rules.specs.Candidates.{Rewrite};
+ghost use Rattle.cv_settling.specs.Instances.{HasRoot, numbered_from, seen_in, sides_by};
+ghost use Rattle.cv_settling.specs.Measured.{is_lower};
+ghost use Rattle.cv_settling.specs.Picking.{IsPicked};
+ghost use Rattle.cv_settling.specs.Rewritings.{AreMeasurable, IsMeasurable, candidate_of, lower_rewritings, lower_sides, placed_in};
+ghost use Rattle.cv_settling.specs.Seen.{IsTableOf};
 
-use crate::equations::{Equation, Equations};
-use crate::matching::{Scene, matches};
-use crate::measure::{is_less, measure_of, measure_put};
+use crate::equations::Equation;
+use crate::matching::lower_instance;
 use crate::stop::Stop;
-use crate::terms::{Given, given_for, made, put};
+use crate::terms::{Given, made, put};
 use crate::truths::{Outcome, truth};
-use cv_settling_overview::walk::{Overview, Placed};
+use crate::types::Table;
+use cv_grounds::open;
+use cv_settling_overview::walk::Placed;
 use cv_step_writer::{Line, Proposal, Reason};
-use cv_syntax::{Decls, Head, NodeId, Pool};
+use cv_syntax::{Head, NodeId, Pool, PoolError};
 use std::alloc::{AllocError, Global};
 
-/// A term with the equation that makes it smaller: one of truth values, or a declared one, by its number among them, with the terms
-/// for its variables.
+/// A term with the equation that makes it smaller: one of truth values, or a declared one, with the terms for its variables.
 #[derive(Drop)]
 pub(crate) enum Rewriting {
     Truth(Placed, Outcome),
-    Instance(Placed, usize, Vec<Given>),
-}
-
-/// What stands for the variables of an equation whose left side a term is, where it makes the term smaller.
-fn instance(
-    scene: Scene,
-    equation: &Equation,
-    term: NodeId,
-) -> Result<Option<Vec<Given>>, AllocError> {
-    let mut given = Vec::new(scene.alloc);
-    if !matches(scene, equation, equation.left, term, &mut given)? {
-        return Ok(None);
-    }
-    if given.len() != equation.variables.len() {
-        return Ok(None);
-    }
-    let after = measure_put(scene, &given, equation.right);
-    if is_less(after, measure_of(scene, term)) {
-        Ok(Some(given))
-    } else {
-        Ok(None)
-    }
+    Instance(Placed, Equation, Vec<Given>),
 }
 
 /// A declared equation that makes a term smaller: the first one, where so many are passed over.
 fn find_instance(
-    scene: Scene,
-    equations: &Equations,
+    alloc: Global,
+    table: &Table,
+    equations: &[Equation],
     at: Placed,
     left: &mut u32,
-) -> Result<Option<Rewriting>, AllocError> {
-    let mut next = equations.first(scene.pool, at.node);
-    for _ in 0..equations.len() {
-        let Some(k) = next else {
-            return Ok(None);
-        };
-        let Some(equation) = equations.get(k) else {
-            return Ok(None);
-        };
-        if let Some(given) = instance(scene, equation, at.node)? {
+) -> Result<Option<Rewriting>, AllocError>
+    requires { All (HasRoot table.now.pool.now.trees) equations.now }
+    ensures { IfOk result (λ o. (s : Scene) → IsTableOf s table.now
+        → IsMeasurable (tree_at table.now.pool.now.trees (Some at.node))
+        → IsPicked (map (Rewrite at.place)
+        (filter (is_lower s (tree_at table.now.pool.now.trees (Some at.node)))
+        (flat_map (sides_by s (tree_at table.now.pool.now.trees (Some at.node)))
+        (map (seen_in table.now.pool.now.trees) equations.now)))) left.old left.new
+        (option_map (candidate_of table.now.pool.now.trees) o)) }
+{
+    let Some(node) = open(table.pool, at.node) else {
+        return Ok(None);
+    };
+    for equation in equations {
+        let instance = lower_instance(alloc, table, equation, node.head, at.node)?;
+        if let Some(given) = instance {
             if *left == 0 {
-                return Ok(Some(Rewriting::Instance(at, k, given)));
+                return Ok(Some(Rewriting::Instance(at, *equation, given)));
             }
             *left -= 1;
         }
-        next = equation.next;
     }
     Ok(None)
 }
 
-/// A term with an equation that makes it smaller: the first one, where so many are passed over. At a term an equation of truth
-/// values comes before the declared ones.
+/// An equation that makes a term smaller: the first one, where so many are passed over. One of truth values comes before the declared
+/// ones.
+fn find_at(
+    alloc: Global,
+    table: &Table,
+    equations: &[Equation],
+    at: Placed,
+    left: &mut u32,
+) -> Result<Option<Rewriting>, AllocError>
+    requires { All (HasRoot table.now.pool.now.trees) equations.now }
+    ensures { IfOk result (λ o. (s : Scene) → IsTableOf s table.now
+        → map (seen_in table.now.pool.now.trees) equations.now
+        ≡ numbered_from 1 (equations_in s.declarations)
+        → IsMeasurable (tree_at table.now.pool.now.trees (Some at.node))
+        → IsPicked (map (Rewrite at.place)
+        (lower_sides s (tree_at table.now.pool.now.trees (Some at.node)))) left.old left.new
+        (option_map (candidate_of table.now.pool.now.trees) o)) }
+{
+    let Some(outcome) = truth(table.pool, at.node) else {
+        return find_instance(alloc, table, equations, at, left);
+    };
+    if *left == 0 {
+        return Ok(Some(Rewriting::Truth(at, outcome)));
+    }
+    *left -= 1;
+    find_instance(alloc, table, equations, at, left)
+}
+
+/// A term with an equation that makes it smaller: the first one, where so many are passed over.
 pub(crate) fn find(
     alloc: Global,
-    pool: &Pool,
-    decls: &Decls,
-    overview: &Overview,
-    equations: &Equations,
+    table: &Table,
+    terms: &[Placed],
+    equations: &[Equation],
     left: &mut u32,
-) -> Result<Option<Rewriting>, AllocError> {
-    let scene = Scene {
-        alloc,
-        pool,
-        decls,
-        overview,
-    };
-    for at in &overview.terms {
-        if let Some(outcome) = truth(pool, at.node) {
-            if *left == 0 {
-                return Ok(Some(Rewriting::Truth(*at, outcome)));
-            }
-            *left -= 1;
-        }
-        if let Some(found) = find_instance(scene, equations, *at, left)? {
-            return Ok(Some(found));
+) -> Result<Option<Rewriting>, AllocError>
+    requires { All (HasRoot table.now.pool.now.trees) equations.now }
+    ensures { IfOk result (λ o. (s : Scene) → IsTableOf s table.now
+        → map (seen_in table.now.pool.now.trees) equations.now
+        ≡ numbered_from 1 (equations_in s.declarations)
+        → AreMeasurable (placed_in table.now.pool.now.trees terms.now)
+        → IsPicked (lower_rewritings s (placed_in table.now.pool.now.trees terms.now))
+        left.old left.new (option_map (candidate_of table.now.pool.now.trees) o)) }
+{
+    for at in terms {
+        let found = find_at(alloc, table, equations, *at, left)?;
+        if let Some(rewriting) = found {
+            return Ok(Some(rewriting));
         }
     }
     Ok(None)
@@ -118,23 +137,18 @@ fn outcome_term(pool: &mut Pool, outcome: Outcome) -> Result<NodeId, Stop>
     ensures { Grows pool.old pool.new }
 {
     match outcome {
-        Outcome::Part(n) => Ok(n),
+        Outcome::Part(Some(n)) => Ok(n),
+        Outcome::Part(None) => Err(Stop(PoolError::OutOfMemory)),
         Outcome::True => made(pool, Head::Yes, &[]),
         Outcome::False => made(pool, Head::No, &[]),
     }
 }
 
-/// The terms for the variables of an equation, in their order.
-fn terms_of(
-    alloc: Global,
-    equation: &Equation,
-    given: &[Given],
-) -> Result<Vec<NodeId>, AllocError> {
+/// The terms that stand for names, in their order.
+fn terms_of(alloc: Global, given: &[Given]) -> Result<Vec<NodeId>, AllocError> {
     let mut terms = Vec::new(alloc);
-    for variable in &equation.variables {
-        if let Some(term) = given_for(given, variable.name) {
-            terms.push(term)?;
-        }
+    for there in given {
+        terms.push(there.term)?;
     }
     Ok(terms)
 }
@@ -144,7 +158,6 @@ fn terms_of(
 pub(crate) fn propose(
     alloc: Global,
     pool: &mut Pool,
-    equations: &Equations,
     found: &Rewriting,
 ) -> Result<Option<Proposal>, Stop>
     ensures { Grows pool.old pool.new }
@@ -154,12 +167,12 @@ pub(crate) fn propose(
             let term = outcome_term(pool, *outcome)?;
             step(alloc, *at, term, Reason::Bool)
         }
-        Rewriting::Instance(at, k, given) => {
-            let Some(equation) = equations.get(*k) else {
+        Rewriting::Instance(at, equation, given) => {
+            let Some(right) = equation.right else {
                 return Ok(None);
             };
-            let terms = terms_of(alloc, equation, given)?;
-            let term = put(alloc, pool, given, equation.right)?;
+            let terms = terms_of(alloc, given)?;
+            let term = put(alloc, pool, given, right)?;
             step(alloc, *at, term, Reason::Equation(equation.number, terms))
         }
     }

@@ -5,8 +5,9 @@ ghost use Rattle.cv_step_writer.specs.Proposals.{IsProposalBelow};
 
 use crate::checking::is_proposal_below;
 use crate::collisions::Chance;
-use crate::equations::Equations;
+use crate::equations::equations_of;
 use crate::stop::Stop;
+use crate::types::Table;
 use crate::{collisions, merge, prune, rewrite, unlet, unnew};
 use cv_grounds::open;
 use cv_settling_overview::walk::Overview;
@@ -67,9 +68,14 @@ fn rewriting_step(
 ) -> Result<Option<Proposal>, Stop>
     ensures { Grows pool.old pool.new }
 {
-    let equations = Equations::of(alloc, pool, decls)?;
-    match rewrite::find(alloc, pool, decls, overview, &equations, left)? {
-        Some(found) => rewrite::propose(alloc, pool, &equations, &found),
+    let equations = equations_of(alloc, pool, decls)?;
+    let table = Table {
+        pool,
+        decls,
+        variables: &overview.variables,
+    };
+    match rewrite::find(alloc, &table, &overview.terms, &equations, left)? {
+        Some(found) => rewrite::propose(alloc, pool, &found),
         None => Ok(None),
     }
 }

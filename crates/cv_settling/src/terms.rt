@@ -1,5 +1,11 @@
 // Terms that are made in the pool.
+ghost use Rattle.std.specs.Prelude.{◌≡◌, List, Some, option_map};
+ghost use Rattle.cv_pool.specs.KindTree.{KindTree};
 ghost use Rattle.cv_pool.specs.PoolView.{Grows};
+ghost use Rattle.cv_syntax_trees.specs.Tree.{chain};
+ghost use Rattle.cv_syntax.specs.PoolTrees.{tree_at};
+ghost use Rattle.cv_scene.specs.lines.Given as lines;
+ghost use Rattle.cv_settling.specs.Putting.{names_of, terms_of};
 
 use crate::checking::are_below;
 use crate::stop::Stop;
@@ -16,13 +22,27 @@ pub struct Given {
 }
 
 /// The term that stands for a name.
-pub(crate) fn given_for(given: &[Given], name: u32) -> Option<NodeId> {
+fn given_for(given: &[Given], name: u32) -> Option<NodeId>
+    ensures { (trees : List KindTree) → option_map (λ n. tree_at trees (Some n)) result
+        ≡ lines.term_for (names_of given.now) (chain (terms_of trees given.now)) name }
+{
     for there in given {
         if there.name == name {
             return Some(there.term);
         }
     }
     None
+}
+
+/// The term that stands for a node, where it is a name for which one does.
+pub(crate) fn given_at(given: &[Given], head: Head) -> Option<NodeId>
+    ensures { (trees : List KindTree) → option_map (λ n. tree_at trees (Some n)) result
+        ≡ lines.given_for (names_of given.now) (chain (terms_of trees given.now)) head }
+{
+    match head {
+        Head::Leaf(x) => given_for(given, x),
+        _ => None,
+    }
 }
 
 /// The arguments of a term, by its head.

@@ -1,0 +1,4 @@
+pub mod Variables
+pub mod Keys
+pub mod Facts
+pub mod Findings

@@ -12,11 +12,21 @@ struct Defined {
     chosen: Option<u32>,
 }
 
-/// The names that are defined above a place, from the root down, with where each stands among them.
+/// How much is known at a place, to come back to it.
+#[derive(Clone, Copy)]
+pub(crate) struct Known {
+    names: usize,
+    cells: usize,
+}
+
+/// The names that are defined above a place, from the root down, with where each stands among them; and the cells of the `defined` lists
+/// around, with how many names are defined above each.
 #[derive(Drop)]
 pub(crate) struct Scope {
     names: Vec<Defined>,
     table: HashMap<u32, usize>,
+    cells: Vec<u32>,
+    listed: HashMap<u32, usize>,
 }
 
 impl Scope {
@@ -25,20 +35,53 @@ impl Scope {
         Scope {
             names: Vec::new(alloc),
             table: HashMap::new(alloc),
+            cells: Vec::new(alloc),
+            listed: HashMap::new(alloc),
         }
     }
 
-    /// How many names are defined.
-    pub(crate) fn mark(&self) -> usize {
-        self.names.len()
+    /// How much is known.
+    pub(crate) fn mark(&self) -> Known {
+        Known {
+            names: self.names.len(),
+            cells: self.cells.len(),
+        }
     }
 
-    /// Forgets the names that came since.
-    pub(crate) fn release(&mut self, mark: usize) {
+    /// Forgets the names that came since, from so many on.
+    fn release_names(&mut self, mark: usize) {
         for _ in mark..self.names.len() {
             if let Some(last) = self.names.pop() {
                 let _ = self.table.remove(&last.name);
             }
+        }
+    }
+
+    /// Forgets what came since.
+    pub(crate) fn release(&mut self, mark: Known) {
+        self.release_names(mark.names);
+        for _ in mark.cells..self.cells.len() {
+            if let Some(last) = self.cells.pop() {
+                let _ = self.listed.remove(&last);
+            }
+        }
+    }
+
+    /// Adds a cell of a `defined` list, where it isn't one of another list around.
+    pub(crate) fn list_cell(&mut self, cell: NodeId) -> Result<(), AllocError> {
+        if self.listed.contains_key(&cell.0) {
+            return Ok(());
+        }
+        self.listed.insert(cell.0, self.names.len())?;
+        self.cells.push(cell.0)?;
+        Ok(())
+    }
+
+    /// Whether a list around has a cell, and stands above the name with a number.
+    fn is_listed_above(&self, cell: NodeId, number: usize) -> bool {
+        match self.listed.get(&cell.0) {
+            Some(k) => *k <= number,
+            None => false,
         }
     }
 
@@ -100,9 +143,19 @@ fn current_name(facts: &Facts, pool: &Pool, term: Option<NodeId>) -> Option<u32>
     }
 }
 
-/// Whether a node reads a name that doesn't stand above the one with a number. What is read at other indices may do so: then some list
-/// of cells has it.
-fn is_later(scope: &Scope, facts: &Facts, pool: &Pool, node: Opened, number: usize) -> Option<u32> {
+/// Whether a node reads a name that doesn't stand above the one with a number, nor is known by a list above it. What is read at other
+/// indices may be so.
+fn is_later(
+    scope: &Scope,
+    facts: &Facts,
+    pool: &Pool,
+    n: NodeId,
+    node: Opened,
+    number: usize,
+) -> Option<u32> {
+    if scope.is_listed_above(n, number) {
+        return None;
+    }
     match node.head {
         Head::Leaf(y) if !scope.is_above(y, number) => Some(y),
         Head::Read(y) if !scope.is_above(y, number) && facts.are_current(pool, node.first) => {
@@ -123,10 +176,13 @@ fn add_later(
 ) -> Result<(), AllocError> {
     let mut at = Some(start);
     for _ in 0..pool.live() {
-        let Some(node) = at.and_then(|n| open(pool, n)) else {
+        let Some(n) = at else {
             return Ok(());
         };
-        if let Some(y) = is_later(scope, facts, pool, node, number) {
+        let Some(node) = open(pool, n) else {
+            return Ok(());
+        };
+        if let Some(y) = is_later(scope, facts, pool, n, node, number) {
             later.push(y)?;
         }
         if let Some(child) = node.first {

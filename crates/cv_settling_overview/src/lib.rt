@@ -4,5 +4,6 @@
 
 pub mod comparisons;
 pub mod facts;
+pub mod keys;
 pub mod variables;
 pub mod walk;

@@ -1,4 +1,7 @@
 // What a walk over a game sees of its variables.
+ghost use Rattle.std.specs.Prelude.{◌≡◌, [], ℕ, OnOk};
+ghost use Rattle.cv_settling_overview.specs.Variables.{nothing, order_with, seen_of, with_cell, with_change, with_read, with_site};
+
 use cv_syntax::NodeId;
 use std::alloc::{AllocError, Global};
 use std::collections::HashMap;
@@ -32,7 +35,9 @@ pub struct Variable {
 }
 
 /// Nothing is seen of a name.
-fn nothing() -> Variable {
+fn nothing() -> Variable
+    ensures { result ≡ nothing }
+{
     Variable {
         sites: 0,
         restrictions: 0,
@@ -47,7 +52,9 @@ fn nothing() -> Variable {
 
 impl Variable {
     /// With one more definition.
-    fn with_site(self, site: Site, indices: u32) -> Variable {
+    fn with_site(self, site: Site, indices: u32) -> Variable
+        ensures { result ≡ with_site site indices self }
+    {
         let (of_type, term) = match site {
             Site::Restriction(t) | Site::Received(t) => (Some(t), None),
             Site::Assignment(t, term) => (Some(t), term),
@@ -77,7 +84,10 @@ pub struct Variables {
 
 impl Variables {
     /// No name is seen.
-    pub fn new(alloc: Global) -> Variables {
+    pub fn new(alloc: Global) -> Variables
+        ensures seen { (x : ℕ) → seen_of result x ≡ nothing }
+        ensures order { result.order.items ≡ [] }
+    {
         Variables {
             order: Vec::new(alloc),
             table: HashMap::new(alloc),
@@ -85,12 +95,16 @@ impl Variables {
     }
 
     /// The variables, in the order of their first definitions.
-    pub fn order(&self) -> &[u32] {
+    pub fn order(&self) -> &[u32]
+        ensures { result.now ≡ self.now.order.items }
+    {
         &self.order
     }
 
     /// What is seen of a name.
-    pub fn get(&self, x: u32) -> Variable {
+    pub fn get(&self, x: u32) -> Variable
+        ensures { result ≡ seen_of self.now x }
+    {
         match self.table.get(&x) {
             Some(variable) => *variable,
             None => nothing(),
@@ -98,7 +112,12 @@ impl Variables {
     }
 
     /// Notes a definition, below so many indices.
-    pub fn note_site(&mut self, x: u32, site: Site, indices: u32) -> Result<(), AllocError> {
+    pub fn note_site(&mut self, x: u32, site: Site, indices: u32) -> Result<(), AllocError>
+        ensures seen { OnOk result ((y : ℕ) → seen_of self.new y
+            ≡ with_change x (with_site site indices) (seen_of self.old) y) }
+        ensures order { OnOk result (self.new.order.items
+            ≡ order_with x (seen_of self.old x) self.old.order.items) }
+    {
         let there = self.get(x);
         if there.sites == 0 {
             self.order.push(x)?;
@@ -108,7 +127,11 @@ impl Variables {
     }
 
     /// Notes that a name is read.
-    pub fn note_read(&mut self, x: u32, in_condition: bool) -> Result<(), AllocError> {
+    pub fn note_read(&mut self, x: u32, in_condition: bool) -> Result<(), AllocError>
+        ensures seen { OnOk result ((y : ℕ) → seen_of self.new y
+            ≡ with_change x (with_read in_condition) (seen_of self.old) y) }
+        ensures order { OnOk result (self.new.order ≡ self.old.order) }
+    {
         let there = self.get(x);
         let variable = Variable {
             reads: there.reads.saturating_add(1),
@@ -120,7 +143,11 @@ impl Variables {
     }
 
     /// Notes a cell of a `defined` list.
-    pub fn note_cell(&mut self, x: u32) -> Result<(), AllocError> {
+    pub fn note_cell(&mut self, x: u32) -> Result<(), AllocError>
+        ensures seen { OnOk result ((y : ℕ) → seen_of self.new y
+            ≡ with_change x with_cell (seen_of self.old) y) }
+        ensures order { OnOk result (self.new.order ≡ self.old.order) }
+    {
         let there = self.get(x);
         let variable = Variable {
             cells: there.cells.saturating_add(1),

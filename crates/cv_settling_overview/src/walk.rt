@@ -2,8 +2,9 @@
 use crate::comparisons::{Comparison, Scope, comparison_at};
 use crate::facts::{Citation, Equated, Facts, is_name};
 use crate::variables::{Site, Variables};
-use cv_grounds::{Lateness, binders, items, open};
+use cv_grounds::{binders, items, open};
 use cv_scope_rules::Position;
+use cv_settling_lateness::Lateness;
 use cv_step_writer::Body;
 use cv_syntax::{Head, NodeId, Opened, Pool};
 use std::alloc::{AllocError, Global};
@@ -25,9 +26,6 @@ pub enum Why {
     Late { cell: NodeId, indices: Vec<Equated> },
 }
 
-/// How much effort it may take to see which cells come later, in a game.
-const MOST_EFFORT: u32 = 500_000;
-
 /// A body that may be dropped: the place of its test, which body it is, the condition, the tree that goes, which is the body of an
 /// `if` or a branch, the number of the body's own fact, and why it is not reached.
 #[derive(Drop)]
@@ -36,7 +34,7 @@ pub struct Pruning {
     pub body: Body,
     pub condition: NodeId,
     pub dropped: NodeId,
-    pub fact: u32,
+    pub fact: u64,
     pub why: Why,
 }
 
@@ -140,7 +138,6 @@ pub struct Overview {
     falsehoods: Vec<Falsehood>,
     unreached: HashMap<u32, usize>,
     lateness: Lateness,
-    left: u32,
     facts: Facts,
     scope: Scope,
     place: u32,
@@ -159,7 +156,6 @@ impl Overview {
             falsehoods: Vec::new(alloc),
             unreached: HashMap::new(alloc),
             lateness: Lateness::of(alloc, pool, game)?,
-            left: MOST_EFFORT,
             facts: Facts::new(alloc),
             scope: Scope::new(alloc),
             place: 0,
@@ -279,7 +275,7 @@ impl Overview {
         }
         for (term, index) in terms.iter().zip(self.facts.indices()) {
             if !is_name(pool, Some(*term), *index) {
-                let equated = self.facts.equating(pool, *term, *index, &mut self.left)?;
+                let equated = self.facts.equating(pool, *term, *index)?;
                 let Some(equated) = equated else {
                     return Ok(None);
                 };
@@ -298,7 +294,7 @@ impl Overview {
             Head::Leaf(x) | Head::Read(x) => x,
             _ => return Ok(false),
         };
-        if !self.lateness.is_late(x, self.place, &mut self.left) {
+        if !self.lateness.is_late(pool, x, self.place) {
             return Ok(false);
         }
         let own = binders(self.alloc, pool, branch.indices)?;
@@ -528,8 +524,20 @@ impl Overview {
         Ok(())
     }
 
+    /// Notes the cells of a branch's list behind it.
+    fn list_cells(&mut self, pool: &Pool, walk: Walk, node: Opened) -> Result<(), AllocError> {
+        let Position::Guards = walk.position else {
+            return Ok(());
+        };
+        for cell in &items(self.alloc, pool, node.first)? {
+            self.scope.list_cell(*cell)?;
+        }
+        Ok(())
+    }
+
     /// How the walk goes on at a node's second child.
     fn second(&mut self, pool: &Pool, walk: Walk, node: Opened) -> Result<Walk, AllocError> {
+        self.list_cells(pool, walk, node)?;
         self.define(pool, walk, node)?;
         let position = walk.position.second(node.head);
         let tested = match node.head {

@@ -110,9 +110,13 @@ impl<'a> Search<'a> {
         is_drawn_as_key(side, x) && !self.secrets.contains(&x.name)
     }
 
-    /// The cryptographic step for a variable, where it is read in instances alone and the step isn't spared.
+    /// The cryptographic step for a variable, where it is read in instances alone and the step isn't spared. It leads to no game where
+    /// `new` may not choose the key of the right side.
     fn crypto(&mut self, side: &Side, x: Variable) -> Result<Option<Move>, AllocError> {
-        if !self.is_key(side, x) || x.sites != 1 || x.first == 0 || x.is_tested {
+        if !side.is_drawable || !self.is_key(side, x) {
+            return Ok(None);
+        }
+        if x.sites != 1 || x.first == 0 || x.is_tested {
             return Ok(None);
         }
         if self.spared.has_crypto(side.equivalence, x.name) {

@@ -31,11 +31,13 @@ pub(crate) struct Function {
     pub(crate) holes: Vec<Hole>,
 }
 
-/// The left side of an equivalence: the equivalence's name, the type of the key, and the functions.
+/// The left side of an equivalence: the equivalence's name, the type of the key, whether `new` may choose the key of the right side, and
+/// the functions.
 #[derive(Drop)]
 pub(crate) struct Side {
     pub(crate) equivalence: u32,
     pub(crate) sort: u32,
+    pub(crate) is_drawable: bool,
     pub(crate) functions: Vec<Function>,
 }
 
@@ -107,7 +109,7 @@ fn is_fixed(decls: &Decls, sort: u32) -> bool {
     }
 }
 
-/// The left side of an equivalence, where `new` may choose the key of the right one: else it leads to no game.
+/// The left side of an equivalence.
 fn side_of(
     alloc: Global,
     pool: &Pool,
@@ -124,13 +126,11 @@ fn side_of(
     let (Some(key), Some(other)) = (key_of(alloc, pool, left)?, key_of(alloc, pool, right)?) else {
         return Ok(None);
     };
-    if !is_fixed(decls, other.sort) {
-        return Ok(None);
-    }
     let list = open(pool, left).and_then(|n| n.second);
     Ok(Some(Side {
         equivalence,
         sort: key.sort,
+        is_drawable: is_fixed(decls, other.sort),
         functions: functions_of(alloc, pool, key, list)?,
     }))
 }

@@ -1,0 +1,7 @@
+mod Between
+mod Branching
+mod Descending
+mod Keeping
+mod Noting
+mod Searching
+mod Stepping

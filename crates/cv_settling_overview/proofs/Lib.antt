@@ -1,0 +1,4 @@
+mod Placing
+pub mod Reading
+pub mod Keeping
+mod Finding
